@@ -1,0 +1,37 @@
+-- Lattices given by rows, and their gradings. (Sturmfels, chapters 4 and 12)
+use Rattle.std.specs.Prelude.{◌≡◌, ℕ, zero, suc, ◌<◌, Bool, not, List, [], ◌∷◌, length, replicate, filter, All, ℤ, pos, ◌≤ℤ◌}
+use Rattle.std.specs.List.{list_all}
+use Rattle.std.specs.Ordering.{int_eq}
+use Rattle.mk_model.specs.Vectors.{entry, zeros, add, scale, weight}
+
+-- the sum of the rows, each taken as often as its factor says
+unfoldable pub combination : ℕ → (ℕ → ℤ) → List (List ℤ) → List ℤ
+combination n factors [] = zeros n
+combination n factors (row ∷ rows) = add (scale (factors zero) row) (combination n (λ i. factors (suc i)) rows)
+
+-- x is an integer combination of the rows, of n columns each
+abbrev pub InLattice : ℕ → List (List ℤ) → List ℤ → Type 0
+InLattice n rows x = (factors : ℕ → ℤ) × (x ≡ combination n factors rows)
+
+-- w has an entry of at least 1 for each of the n columns, and product 0 with each row: every fibre is finite
+pub record IsGrading (n : ℕ) (rows : List (List ℤ)) (w : List ℤ) : Type 0 where
+  pub columns : length w ≡ n
+  pub positive : (c : ℕ) → c < n → pos 1 ≤ℤ entry w c
+  pub rows_columns : All (λ row. length row ≡ n) rows
+  pub rows_weight : All (λ row. weight w row ≡ pos 0) rows
+
+abbrev pub ones : ℕ → List ℤ
+ones n = replicate n (pos 1)
+
+-- The grading that is chosen where the lattice comes alone: all ones, if each row has sum 0.
+pub record IsChosenGrading (n : ℕ) (rows : List (List ℤ)) (w : List ℤ) : Type 0 where
+  pub all_ones : w ≡ ones n
+  pub rows_weight : All (λ row. weight w row ≡ pos 0) rows
+
+-- has a row no entry but 0
+abbrev pub is_zero : List ℤ → Bool
+is_zero row = list_all (λ a. int_eq a (pos 0)) row
+
+-- the rows that are not zero, in their order
+abbrev pub nonzero_rows : List (List ℤ) → List (List ℤ)
+nonzero_rows rows = filter (λ row. not (is_zero row)) rows

@@ -1,0 +1,15 @@
+//! The definitions that the other crates are proved against, over plain lists of integers, and their laws.
+//!
+//! The definitions stand in `specs/`, and `docs/DEFINITIONS.md` says each in plain words. A law is the contract of a
+//! function without parameters.
+#![tactic(auto)]
+
+/// An entry of a lattice or of a move: from `-ENTRY_MAX` to `ENTRY_MAX`.
+pub type Entry = i64;
+
+/// The largest entry, 2^63 - 1.
+pub const ENTRY_MAX: Entry = 9223372036854775807;
+
+/// There is no memory left.
+#[derive(Clone, Copy, Debug, PartialEq, Eq)]
+pub struct NoMemory;

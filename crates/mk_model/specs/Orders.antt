@@ -1,5 +1,5 @@
 -- The orders of vectors and of moves. (Sturmfels, chapters 4 and 5: a term order, leading and trailing terms)
-use Rattle.std.specs.Prelude.{◌≡◌, ◌⊎◌, ℕ, zero, suc, List, [], ◌∷◌, ℤ, pos, ◌<ℤ◌}
+use Rattle.std.specs.Prelude.{◌≡◌, ◌⊎◌, ℕ, zero, suc, List, [], ◌∷◌, ℤ, ◌<ℤ◌}
 use Rattle.mk_model.specs.Vectors.{entry, positive_part, negative_part, weight}
 
 -- Along a priority list of columns: at the first column of it where they differ, x has the larger entry.

@@ -1,2 +1,4 @@
 pub mod Integers
 pub mod VectorAlgebra
+pub mod OrderLaws
+pub mod WalkLaws

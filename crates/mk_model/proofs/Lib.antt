@@ -5,3 +5,4 @@ pub mod OrderLaws
 pub mod WalkLaws
 pub mod LatticeLaws
 pub mod MoveLaws
+pub mod AnswerLaws

@@ -6,3 +6,4 @@ pub mod WalkLaws
 pub mod LatticeLaws
 pub mod MoveLaws
 pub mod AnswerLaws
+pub mod OneRow

@@ -4,6 +4,10 @@
 //! function without parameters.
 #![tactic(auto)]
 
+mod laws;
+
+pub use laws::{answer_of_one_row, answer_without_rows};
+
 /// An entry of a lattice or of a move: from `-ENTRY_MAX` to `ENTRY_MAX`.
 pub type Entry = i64;
 

@@ -1,6 +1,7 @@
 -- Vectors of integers, as lists. Columns count from 0. (Sturmfels, "Gröbner Bases and Convex Polytopes", chapter 4)
 use Rattle.std.specs.Prelude.{◌≡◌, ℕ, List, [], ◌∷◌, length, map, replicate, get_or, ℤ, pos, ◌+ℤ◌, ◌-ℤ◌, ◌*ℤ◌, neg_ℤ, ◌≤ℤ◌}
 use Rattle.std.specs.Int.{int_max}
+use Rattle.mk_model.specs.declared.TheConstants.{ENTRY_MAX}
 
 -- the entry of a column, and 0 past the end
 abbrev pub entry : List ℤ → ℕ → ℤ
@@ -41,6 +42,10 @@ unfoldable pub weight : List ℤ → List ℤ → ℤ
 weight [] x = pos 0
 weight (k ∷ w) [] = pos 0
 weight (k ∷ w) (a ∷ x) = (k *ℤ a) +ℤ weight w x
+
+-- what an entry of a lattice or of a move may be
+abbrev pub IsEntry : ℤ → Type 0
+IsEntry z = (neg_ℤ ENTRY_MAX ≤ℤ z) × (z ≤ℤ ENTRY_MAX)
 
 -- a nonnegative vector of n columns
 pub record IsPoint (n : ℕ) (x : List ℤ) : Type 0 where

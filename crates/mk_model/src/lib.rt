@@ -8,6 +8,8 @@ mod laws;
 
 pub use laws::{answer_of_one_row, answer_without_rows};
 
+use std::alloc::{AllocError, AllocFailed};
+
 /// An entry of a lattice or of a move: from `-ENTRY_MAX` to `ENTRY_MAX`.
 pub type Entry = i64;
 
@@ -17,3 +19,15 @@ pub const ENTRY_MAX: Entry = 9223372036854775807;
 /// There is no memory left.
 #[derive(Clone, Copy, Debug, PartialEq, Eq)]
 pub struct NoMemory;
+
+impl From<AllocError> for NoMemory {
+    fn from(_e: AllocError) -> NoMemory {
+        NoMemory
+    }
+}
+
+impl<T: Drop> From<AllocFailed<T>> for NoMemory {
+    fn from(_e: AllocFailed<T>) -> NoMemory {
+        NoMemory
+    }
+}

@@ -1,0 +1,108 @@
+-- The product of a grading and a row, one column after another.
+use Rattle.std.proofs.Common.{◌≡◌, ℕ, zero, suc, ◌+◌, ◌*◌, ◌<◌, ◌≤◌, List, [], ◌∷◌, length, take, get_or, All, refl, ap, add-one, subst, ◌∙◌, sym, arith, ℤ, pos, negsuc, neg_ℤ, ◌+ℤ◌, ◌*ℤ◌, ◌≤ℤ◌, unsigned_abs, ◌^◌}
+use Rattle.std.proofs.Math.Nat.{mul-le-mul}
+use mir.Syntax.{w64, w128}
+use mir.Val.{SFits, to_z, of_z}
+use Rattle.std.proofs.lemmas.List.Elements.{All-get_or}
+use Rattle.std.proofs.lemmas.List.{take_all}
+use Rattle.std.proofs.lemmas.Int.{ints, unsigned_abs-mul, to_z-of_z, fits_signed_from_abs}
+use Rattle.mk_model.specs.Vectors.{weight, IsEntry}
+use Rattle.mk_move.specs.Gradings.{IsWeight, AreWeights}
+
+-- the product of one column more
+pub weight_more : (w x : List ℤ) (i : ℕ) → i < length w → i < length x → weight (take (suc i) w) (take (suc i) x) ≡ weight (take i w) (take i x) +ℤ (get_or w i (pos 0) *ℤ get_or x i (pos 0))
+unfolding weight
+weight_more [] x i h l = absurd (omega arith)
+weight_more (k ∷ w) [] i h l = absurd (omega arith)
+weight_more (k ∷ w) (a ∷ x) zero h l = omega (arith, ints)
+weight_more (k ∷ w) (a ∷ x) (suc i) h l =
+    let less = weight_more w x i (omega arith) (omega arith) in
+    omega (arith, ints, less)
+
+-- a number between minus n and n, by its absolute value
+pub abs_bounds : (z : ℤ) (n : ℕ) → unsigned_abs z ≤ n → (neg_ℤ (pos n) ≤ℤ z) × (z ≤ℤ pos n)
+abs_bounds (pos m) n h = (omega (arith, ints), omega (arith, ints))
+abs_bounds (negsuc m) n h = (omega (arith, ints), omega (arith, ints))
+
+abs_from_bounds : (z : ℤ) (n : ℕ) → neg_ℤ (pos n) ≤ℤ z → z ≤ℤ pos n → unsigned_abs z ≤ n
+abs_from_bounds (pos m) n h l = omega (arith, ints)
+abs_from_bounds (negsuc m) n h l = omega (arith, ints)
+
+-- the most that one column adds
+abbrev pub most_of_column : ℕ
+most_of_column = 2147483647 * 9223372036854775807
+
+pub product_bounds : (k a : ℤ) → IsWeight k → IsEntry a → (neg_ℤ (pos most_of_column) ≤ℤ (k *ℤ a)) × ((k *ℤ a) ≤ℤ pos most_of_column)
+product_bounds k a h l =
+    let of_k : unsigned_abs k ≤ 2147483647 = abs_from_bounds k 2147483647 (omega (arith, ints, h.0)) h.1 in
+    let of_a : unsigned_abs a ≤ 9223372036854775807 = abs_from_bounds a 9223372036854775807 l.0 l.1 in
+    abs_bounds (k *ℤ a) most_of_column (omega (arith, unsigned_abs-mul k a, mul-le-mul of_k of_a))
+
+pub IsWeight-fits : (k : ℤ) → IsWeight k → unsigned_abs k < 2 ^ 63
+IsWeight-fits k h = omega (arith, abs_from_bounds k 2147483647 (omega (arith, ints, h.0)) h.1)
+
+pub IsEntry-fits : (a : ℤ) → IsEntry a → unsigned_abs a < 2 ^ 63
+IsEntry-fits a h = omega (arith, abs_from_bounds a 9223372036854775807 h.0 h.1)
+
+-- what the code's product of a weight and an entry gives
+pub product_is : (k a r s : ℤ) → IsWeight k → IsEntry a → r ≡ to_z w64 (of_z w64 k) → s ≡ to_z w64 (of_z w64 a) → to_z w128 (of_z w128 (to_z w128 (of_z w128 r) *ℤ to_z w128 (of_z w128 s))) ≡ k *ℤ a
+product_is k a r s h l p q =
+    let fits_k : unsigned_abs k < 2 ^ 63 = IsWeight-fits k h in
+    let fits_a : unsigned_abs a < 2 ^ 63 = IsEntry-fits a l in
+    let bounds = product_bounds k a h l in
+    let fits_product : unsigned_abs (k *ℤ a) < 2 ^ 127 = omega (arith, abs_from_bounds (k *ℤ a) most_of_column bounds.0 bounds.1) in
+    let is_k : to_z w128 (of_z w128 r) ≡ k =
+    ap (λ z. to_z w128 (of_z w128 z)) (p ∙ to_z-of_z w64 k (fits_signed_from_abs w64 k fits_k)) ∙ to_z-of_z w128 k (fits_signed_from_abs w128 k (omega arith)) in
+    let is_a : to_z w128 (of_z w128 s) ≡ a =
+    ap (λ z. to_z w128 (of_z w128 z)) (q ∙ to_z-of_z w64 a (fits_signed_from_abs w64 a fits_a)) ∙ to_z-of_z w128 a (fits_signed_from_abs w128 a (omega arith)) in
+    ap (λ z. to_z w128 (of_z w128 z)) (ap (λ u. u *ℤ to_z w128 (of_z w128 s)) is_k ∙ ap (λ v. k *ℤ v) is_a)
+    ∙ to_z-of_z w128 (k *ℤ a) (fits_signed_from_abs w128 (k *ℤ a) fits_product)
+
+-- one column more keeps the bounds on a product, and the sum fits
+pub sum_fits : (total p : ℤ) (n : ℕ) → n < 512 → neg_ℤ (pos (n * most_of_column)) ≤ℤ total → total ≤ℤ pos (n * most_of_column) → neg_ℤ (pos most_of_column) ≤ℤ p → p ≤ℤ pos most_of_column → SFits w128 (total +ℤ p)
+sum_fits total p n few h l k m =
+    let bounded : n * most_of_column ≤ 511 * most_of_column = omega arith in
+    fits_signed_from_abs w128 (total +ℤ p) (omega (arith, abs_from_bounds (total +ℤ p) (512 * most_of_column) (omega (arith, ints)) (omega (arith, ints))))
+
+-- the total so far, and its bounds
+pub record IsTotal (w x : List ℤ) (i : ℕ) (total : ℤ) : Type 0 where
+  pub value : total ≡ weight (take i w) (take i x)
+  pub least : neg_ℤ (pos (i * most_of_column)) ≤ℤ total
+  pub most : total ≤ℤ pos (i * most_of_column)
+
+-- a product that fits beside the total, and the total with it
+pub record IsTurn (w x : List ℤ) (i : ℕ) (total product : ℤ) : Type 0 where
+  pub fits : SFits w128 (total +ℤ product)
+  pub next : IsTotal w x (i + 1) (to_z w128 (of_z w128 (total +ℤ product)))
+
+-- one turn of the loop over the columns
+pub turn : (w x : List ℤ) (i : ℕ) (total r s : ℤ) → AreWeights w → All IsEntry x → length x ≡ length w → i < length x → IsTotal w x i total → r ≡ to_z w64 (of_z w64 (get_or w i (pos 0))) → s ≡ to_z w64 (of_z w64 (get_or x i (pos 0))) → IsTurn w x i total (to_z w128 (of_z w128 (to_z w128 (of_z w128 r) *ℤ to_z w128 (of_z w128 s))))
+turn w x i total r s weights entries same lt so_far p q =
+    let k = get_or w i (pos 0) in
+    let a = get_or x i (pos 0) in
+    let in_w : i < length w = omega arith in
+    let weight_ok : IsWeight k = All-get_or IsWeight w i (pos 0) in_w weights.each in
+    let entry_ok : IsEntry a = All-get_or IsEntry x i (pos 0) lt entries in
+    let bounds = product_bounds k a weight_ok entry_ok in
+    let fits : SFits w128 (total +ℤ (k *ℤ a)) =
+    sum_fits total (k *ℤ a) i (omega (arith, weights.columns)) so_far.least so_far.most bounds.0 bounds.1 in
+    let same_value : to_z w128 (of_z w128 (total +ℤ (k *ℤ a))) ≡ total +ℤ (k *ℤ a) = to_z-of_z w128 (total +ℤ (k *ℤ a)) fits in
+    let least_now : neg_ℤ (pos ((i + 1) * most_of_column)) ≤ℤ (total +ℤ (k *ℤ a)) = omega (arith, ints, so_far.least, bounds.0) in
+    let most_now : (total +ℤ (k *ℤ a)) ≤ℤ pos ((i + 1) * most_of_column) = omega (arith, ints, so_far.most, bounds.1) in
+    let plain : IsTurn w x i total (k *ℤ a) = record {
+      fits = fits;
+      next = record {
+        value = same_value ∙ ap (λ (t : ℤ). t +ℤ (k *ℤ a)) so_far.value ∙ sym (weight_more w x i in_w lt) ∙ ap (λ n. weight (take n w) (take n x)) (sym (add-one i));
+        least = subst (λ (t : ℤ). neg_ℤ (pos ((i + 1) * most_of_column)) ≤ℤ t) (sym same_value) least_now;
+        most = subst (λ (t : ℤ). t ≤ℤ pos ((i + 1) * most_of_column)) (sym same_value) most_now;
+      };
+    } in
+    subst (IsTurn w x i total) (sym (product_is k a r s weight_ok entry_ok p q)) plain
+
+pub no_total : (w x : List ℤ) → IsTotal w x 0 (pos 0)
+unfolding weight
+no_total w x = record { value = refl; least = omega (arith, ints); most = omega (arith, ints) }
+
+pub whole_total : (w x : List ℤ) (i : ℕ) (total : ℤ) → length w ≤ i → length x ≤ i → IsTotal w x i total → total ≡ weight w x
+whole_total w x i total h l so_far =
+    so_far.value ∙ ap (λ y. weight (take i w) y) (take_all i x l) ∙ ap (λ v. weight v x) (take_all i w h)

@@ -1,0 +1,3 @@
+pub mod Gradings
+pub mod Priorities
+pub mod Moves

@@ -1,0 +1,42 @@
+-- What a move is seen as, and what reading one from a row gives.
+use Rattle.std.specs.Prelude.{◌≡◌, ◌≢◌, ◌⊎◌, ◌≤◌, ℕ, List, length, All, Option, Some, None, Result, Ok, Err, ℤ, pos}
+use Rattle.std.specs.Prelude.{[], ◌∷◌, if◌then◌else◌}
+use Rattle.std.specs.Ordering.{int_eq}
+use Rattle.mk_model.specs.Vectors.{entry, zeros, negate, weight, positive_part, IsEntry}
+use Rattle.mk_model.specs.Orders.{IsOriented}
+use Rattle.mk_move.specs.declared.moves.MoveFault.{MoveFault}
+use Rattle.mk_move.specs.declared.moves.MoveFault.TheVariants.{Memory, NotGraded}
+
+-- a move: its entries, and the weight of its lead
+pub record Weighed : Type 0 where
+  pub entries : List ℤ
+  pub weight : ℤ
+
+-- at most 512 columns, not zero, and entries in range
+pub record IsKept (m : Weighed) : Type 0 where
+  pub columns : length m.entries ≤ 512
+  pub not_zero : m.entries ≢ zeros (length m.entries)
+  pub entries : All IsEntry m.entries
+
+-- the row or its negative, oriented by the list
+pub record IsRowOriented (row : List ℤ) (p : List ℕ) (entries : List ℤ) : Type 0 where
+  pub either : (entries ≡ row) ⊎ (entries ≡ negate row)
+  pub oriented : IsOriented p entries
+  pub not_zero : row ≢ zeros (length row)
+
+-- the row or its negative, oriented by the list, with the weight that the grading gives
+pub record IsMoveOfRow (row w : List ℤ) (p : List ℕ) (m : Weighed) : Type 0 where
+  pub entries : IsRowOriented row p m.entries
+  pub weight : m.weight ≡ weight w (positive_part m.entries)
+
+-- Reading a move from a row: none exactly for the zero row, refused exactly where the product with the grading isn't 0.
+abbrev pub ReadsRow : List ℤ → List ℤ → List ℕ → Result (Option Weighed) MoveFault → Type 0
+ReadsRow row w p (Ok None) = row ≡ zeros (length row)
+ReadsRow row w p (Ok (Some m)) = (weight w row ≡ pos 0) × IsMoveOfRow row w p m
+ReadsRow row w p (Err Memory) = Unit {0}
+ReadsRow row w p (Err (NotGraded value)) = (value ≡ weight w row) × (value ≢ pos 0)
+
+-- the first entry along a list of columns that isn't 0, or 0
+abbrev pub first_along : List ℕ → List ℤ → ℤ
+first_along [] row = pos 0
+first_along (c ∷ columns) row = if int_eq (entry row c) (pos 0) then first_along columns row else entry row c

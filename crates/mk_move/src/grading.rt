@@ -1,0 +1,122 @@
+ghost use Rattle.std.specs.Prelude.{◌≡◌, ◌≤◌, length, IfOk, IfErr, All};
+ghost use Rattle.mk_model.specs.Vectors.{weight, positive_part, IsEntry};
+ghost use Rattle.mk_move.specs.Gradings.{AreWeights, IsRefused};
+
+use mk_model::Entry;
+use std::alloc::{AllocError, Global};
+use std::marker::Model;
+
+/// The largest weight of a column.
+const WEIGHT_MAX: i64 = 2147483647;
+
+/// Why weights are no grading.
+#[derive(Clone, Copy, Debug, PartialEq, Eq)]
+pub enum GradingFault {
+    Memory,
+    NotInRange { column: u32, value: i64 },
+}
+
+impl From<AllocError> for GradingFault {
+    ghost use Rattle.std.specs.Prelude.{◌≡◌};
+    ghost use Rattle.mk_move.specs.declared.grading.GradingFault.TheVariants.{Memory};
+
+    ghost from_gives = { λ _ e. e ≡ Memory };
+
+    fn from(_e: AllocError) -> GradingFault {
+        GradingFault::Memory
+    }
+}
+
+/// A positive weight for each column: from 1 to 2147483647, of at most 512 columns. (Sturmfels, chapter 4)
+#[derive(Debug, Drop)]
+pub struct Grading {
+    weights: Vec<i64>,
+}
+
+impl Model for Grading {
+    ghost use Rattle.std.specs.Prelude.{List, ℤ};
+    ghost use Rattle.mk_move.specs.Gradings.{AreWeights};
+
+    ghost Value = { List ℤ };
+
+    ghost view = { λ g. g.weights.items };
+
+    ghost invariant = { λ g. AreWeights g.weights.items };
+}
+
+impl Grading {
+    /// The grading of these weights, one for each column. `NotInRange` names the first weight that is out of range.
+    pub fn new(alloc: Global, weights: &[i64]) -> Result<Grading, GradingFault>
+        requires { length weights.now ≤ 512 }
+        ensures value { IfOk result (λ grading. grading ≡ weights.now) }
+        ensures weights { IfOk result AreWeights }
+        ensures refused { IfErr result (IsRefused weights.now) }
+    {
+        for (column, value) in weights.iter().enumerate() {
+            if *value < 1 || *value > WEIGHT_MAX {
+                return Err(GradingFault::NotInRange {
+                    column: column as u32,
+                    value: *value,
+                });
+            }
+        }
+        Ok(Grading {
+            weights: Vec::from_slice(alloc, weights)?,
+        })
+    }
+
+    /// How many columns it has.
+    pub fn columns(&self) -> u32
+        ensures value { result ≡ length self.now }
+        ensures kept { AreWeights self.now }
+    {
+        self.weights.len() as u32
+    }
+
+    /// The product with a row of as many columns.
+    pub fn product(&self, row: &[Entry]) -> i128
+        requires columns { length row.now ≡ length self.now }
+        requires entries { All IsEntry row.now }
+        ensures value { result ≡ weight self.now row.now }
+        ensures kept { AreWeights self.now }
+    {
+        product_of(&self.weights, row)
+    }
+
+    /// The product with the positive part of a row of as many columns.
+    pub fn lead_weight(&self, row: &[Entry]) -> i128
+        requires columns { length row.now ≡ length self.now }
+        requires entries { All IsEntry row.now }
+        ensures { result ≡ weight self.now (positive_part row.now) }
+    {
+        lead_product_of(&self.weights, row)
+    }
+}
+
+/// The product with a row of as many columns.
+fn product_of(weights: &[i64], row: &[Entry]) -> i128
+    requires columns { length row.now ≡ length weights.now }
+    requires weights { AreWeights weights.now }
+    requires entries { All IsEntry row.now }
+    ensures { result ≡ weight weights.now row.now }
+{
+    let mut total: i128 = 0;
+    for (column, entry) in row.iter().enumerate() {
+        total += i128::from(weights[column]) * i128::from(*entry);
+    }
+    total
+}
+
+/// The product with the positive part of a row of as many columns.
+fn lead_product_of(weights: &[i64], row: &[Entry]) -> i128
+    requires columns { length row.now ≡ length weights.now }
+    requires weights { AreWeights weights.now }
+    requires entries { All IsEntry row.now }
+    ensures { result ≡ weight weights.now (positive_part row.now) }
+{
+    let mut total: i128 = 0;
+    for (column, entry) in row.iter().enumerate() {
+        total += i128::from(weights[column]) * i128::from((*entry).max(0));
+    }
+    total
+}

@@ -1,0 +1,147 @@
+ghost use Rattle.std.specs.Prelude.{◌≡◌, ◌<◌, length, map, IfOk, MatchOption, All};
+ghost use Rattle.mk_model.specs.Vectors.{IsEntry, entry, negate, zeros};
+ghost use Rattle.mk_move.specs.Moves.{IsKept, IsRowOriented, ReadsRow, first_along};
+
+use crate::grading::Grading;
+use crate::priority::Priority;
+use mk_model::Entry;
+use smallvec::SmallVec;
+use std::alloc::{AllocError, AllocFailed, Global};
+use std::marker::Model;
+
+/// Why a row is no move.
+#[derive(Clone, Copy, Debug, PartialEq, Eq)]
+pub enum MoveFault {
+    Memory,
+    NotGraded { value: i128 },
+}
+
+impl From<AllocError> for MoveFault {
+    ghost use Rattle.std.specs.Prelude.{◌≡◌};
+    ghost use Rattle.mk_move.specs.declared.moves.MoveFault.TheVariants.{Memory};
+
+    ghost from_gives = { λ _ e. e ≡ Memory };
+
+    fn from(_e: AllocError) -> MoveFault {
+        MoveFault::Memory
+    }
+}
+
+/// How many entries lie in the move itself.
+const INLINE: usize = 16;
+
+type Entries = SmallVec<Entry, INLINE>;
+
+/// A vector of a lattice that isn't zero, of at most 512 columns, with the weight of its lead.
+/// (Sturmfels, chapters 4 and 5: a binomial with its degree)
+#[derive(Debug, Drop)]
+pub struct Move {
+    entries: Entries,
+    weight: i128,
+}
+
+impl Model for Move {
+    ghost use Rattle.mk_move.specs.Moves.{Weighed, IsKept};
+
+    ghost Value = { Weighed };
+
+    ghost view = { λ m. record { entries = m.entries.items; weight = m.weight } };
+
+    ghost invariant = { λ m. IsKept (record { entries = m.entries.items; weight = m.weight }) };
+}
+
+impl Move {
+    /// The move of a row: the row or its negative, oriented by the list, and none for the zero row. `NotGraded` has the
+    /// product of row and grading, where it isn't 0.
+    pub fn from_row(
+        alloc: Global,
+        row: &[Entry],
+        grading: &Grading,
+        priority: &Priority,
+    ) -> Result<Option<Move>, MoveFault>
+        requires columns { length row.now ≡ length grading.now }
+        requires list { length priority.now ≡ length grading.now }
+        requires entries { All IsEntry row.now }
+        ensures { ReadsRow row.now grading.now priority.now result }
+    {
+        let value = grading.product(row);
+        if value != 0 {
+            return Err(MoveFault::NotGraded { value });
+        }
+        let Some(entries) = oriented(alloc, row, priority)? else {
+            return Ok(None);
+        };
+        let weight = grading.lead_weight(entries.as_slice());
+        Ok(Some(Move { entries, weight }))
+    }
+
+    /// How many columns it has.
+    pub fn columns(&self) -> u32
+        ensures value { result ≡ length self.now.entries }
+        ensures kept { IsKept self.now }
+    {
+        self.entries.len() as u32
+    }
+
+    /// The entry of a column.
+    pub fn entry(&self, column: u32) -> i128
+        requires { column < length self.now.entries }
+        ensures { result ≡ entry self.now.entries column }
+    {
+        i128::from(self.entries.as_slice()[column as usize])
+    }
+
+    /// The weight of its lead, and of its tail.
+    pub fn weight(&self) -> i128
+        ensures { result ≡ self.now.weight }
+    {
+        self.weight
+    }
+}
+
+/// The row or its negative, whichever is oriented by the list, and none for the zero row.
+fn oriented(
+    alloc: Global,
+    row: &[Entry],
+    priority: &Priority,
+) -> Result<Option<Entries>, AllocError>
+    requires list { length priority.now ≡ length row.now }
+    requires entries { All IsEntry row.now }
+    ensures { IfOk result (λ found. MatchOption found (row.now ≡ zeros (length row.now))
+        (λ entries. IsRowOriented row.now priority.now entries.items)) }
+{
+    let first = first_entry(row, priority.as_slice());
+    if first == 0 {
+        return Ok(None);
+    }
+    if first < 0 {
+        return Ok(Some(SmallVec::from_slice(alloc, row)?));
+    }
+    Ok(Some(negated(alloc, row)?))
+}
+
+/// The first entry along the list that isn't 0, or 0 where there is none.
+fn first_entry(row: &[Entry], columns: &[u32]) -> Entry
+    requires { All (λ c. c < length row.now) columns.now }
+    ensures { result ≡ first_along columns.now row.now }
+{
+    for column in columns {
+        let entry = row[*column as usize];
+        if entry != 0 {
+            return entry;
+        }
+    }
+    0
+}
+
+/// The negative of a row.
+fn negated(alloc: Global, row: &[Entry]) -> Result<Entries, AllocError>
+    requires { All IsEntry row.now }
+    ensures { IfOk result (λ entries. entries.items ≡ negate row.now) }
+{
+    let mut entries = SmallVec::with_capacity(alloc, row.len())?;
+    for entry in row {
+        entries.push(-*entry)?;
+    }
+    Ok(entries)
+}

@@ -1,0 +1,63 @@
+-- Digits, and the number that they write.
+use Rattle.std.proofs.Common.{◌≡◌, ℕ, ◌+◌, ◌*◌, ◌-◌, ◌<◌, min, true, false, ◌==◌, Bool, cond, List, [], ◌∷◌, length, get_or, take, inl, inr, refl, sym, ap, subst, ◌∙◌, arith}
+use Rattle.std.specs.Char.{is_ascii_digit, digit_value}
+use Rattle.std.specs.Str.Parse.{digits_value}
+use Rattle.std.proofs.lemmas.Bool.{eqb-true, ne_eqb, false≢true}
+use Rattle.std.proofs.lemmas.Bool.Decides.{nat_tests}
+use Rattle.std.proofs.lemmas.Int.Digits.{digits_value_more}
+use Rattle.std.proofs.lemmas.List.Elements.{All-head}
+use Rattle.mk_model.specs.Tables.{AreDigits, IsCount}
+use Rattle.mk_files.specs.Numbers.{without_plus}
+
+-- to hold a number at a limit and go on is to go on and hold it there
+min-held : (value limit digit : ℕ) → min (min (min value limit * 10) limit + digit) limit ≡ min (value * 10 + digit) limit
+min-held value limit digit = omega arith
+
+digit_value-ascii : (c : ℕ) → is_ascii_digit c ≡ true → digit_value c ≡ c - 48
+digit_value-ascii c h = grind (arith, nat_tests)
+
+-- one more digit
+pub digits_value-held : (digits : List ℕ) (i limit old ten digit : ℕ) (new : ℕ) → i < length digits → is_ascii_digit (get_or digits i 0) ≡ true → old ≡ min (digits_value 10 (take i digits)) limit → ten ≡ min (old * 10) limit → digit ≡ get_or digits i 0 - 48 → new ≡ min (ten + digit) limit → new ≡ min (digits_value 10 (take (i + 1) digits)) limit
+digits_value-held digits i limit old ten digit new more ascii is_old is_ten is_digit is_new =
+    let value : digits_value 10 (take (i + 1) digits) ≡ digits_value 10 (take i digits) * 10 + digit = digits_value_more 10 digits i more ∙ ap (λ d. digits_value 10 (take i digits) * 10 + d) (digit_value-ascii _ ascii ∙ sym is_digit) in
+    let held : min (min (min (digits_value 10 (take i digits)) limit * 10) limit + digit) limit ≡ min (digits_value 10 (take i digits) * 10 + digit) limit = min-held _ limit digit in
+    cc
+
+-- digits have no sign in front
+first_digit : (b : ℕ) (digits : List ℕ) → AreDigits (b ∷ digits) → is_ascii_digit b ≡ true
+first_digit b digits are = All-head (λ c. is_ascii_digit c ≡ true) b digits are.each
+
+no_plus : (b : ℕ) → is_ascii_digit b ≡ true → (b == 43) ≡ false
+no_plus b h = ne_eqb b 43 (λ e. false≢true (ap is_ascii_digit (sym e) ∙ h))
+
+without_plus-digits : (digits : List ℕ) → AreDigits digits → without_plus digits ≡ digits
+without_plus-digits [] are = refl
+without_plus-digits (b ∷ digits) are =
+    ap (λ t. cond t digits (b ∷ digits)) (no_plus b (first_digit b digits are))
+
+count_behind : (b : ℕ) (token : List ℕ) (t : Bool) → (b == 43) ≡ t → AreDigits (cond t token (b ∷ token)) → IsCount (b ∷ token) (digits_value 10 (cond t token (b ∷ token)))
+count_behind b token true e are = (token, are, refl, inr (ap (λ c. c ∷ token) (eqb-true b 43 e)))
+count_behind b token false e are = (b ∷ token, are, refl, inl refl)
+
+-- a count is what the digits behind a plus write
+pub IsCount-from : (token : List ℕ) → AreDigits (without_plus token) → IsCount token (digits_value 10 (without_plus token))
+IsCount-from [] are = ([], are, refl, inl refl)
+IsCount-from (b ∷ token) are = count_behind b token (b == 43) refl are
+
+digits_of_count : (token : List ℕ) (n : ℕ) (count : IsCount token n) → without_plus token ≡ count.0
+digits_of_count token n (digits, are, value, inl e) = ap without_plus e ∙ without_plus-digits digits are
+digits_of_count token n (digits, are, value, inr e) = ap without_plus e
+
+pub IsCount-digits : (token : List ℕ) (n : ℕ) → IsCount token n → AreDigits (without_plus token)
+IsCount-digits token n count = subst AreDigits (sym (digits_of_count token n count)) count.1
+
+pub IsCount-value : (token : List ℕ) (n : ℕ) → IsCount token n → n ≡ digits_value 10 (without_plus token)
+IsCount-value token n count = count.2 ∙ ap (digits_value 10) (sym (digits_of_count token n count))
+
+-- a token writes one count at most
+pub IsCount-same : (token : List ℕ) (m n : ℕ) → IsCount token m → IsCount token n → m ≡ n
+IsCount-same token m n p q = IsCount-value token m p ∙ sym (IsCount-value token n q)
+
+-- nothing with a minus in front is a count
+pub minus_no_count : (digits : List ℕ) (n : ℕ) → IsCount (45 ∷ digits) n → ⊥
+minus_no_count digits n count = false≢true (first_digit 45 digits (IsCount-digits (45 ∷ digits) n count))

@@ -1,0 +1,5 @@
+pub mod Bounds
+pub mod Table
+pub mod Tokens
+pub mod Numbers
+pub mod Reading

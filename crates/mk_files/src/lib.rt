@@ -1,0 +1,19 @@
+//! The reader of tables: files of integers as the 4ti2 manual has them.
+//!
+//! A table is a text of numbers with white space between them: the number of rows, the number of columns, and the
+//! entries row by row. The grammar stands in `specs/Tables.antt` of `mk_model`.
+#![tactic(auto)]
+
+mod bounds;
+mod fault;
+mod numbers;
+mod reading;
+mod table;
+#[cfg(test)]
+mod tests;
+mod tokens;
+
+pub use bounds::{Bounds, MAX_COLUMNS, MAX_ROWS};
+pub use fault::TableFault;
+pub use reading::read_table;
+pub use table::Table;

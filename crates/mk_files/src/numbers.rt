@@ -56,7 +56,8 @@ pub fn count_of(token: &[u8], most: u32) -> Option<u32>
 fn entry_of_digits(digits: &[u8]) -> Option<Entry>
     ensures found { IfSome result
         (λ z. AreDigits digits.now × (z ≡ pos (digits_value 10 digits.now)) × IsEntry z) }
-    ensures none { IfNone result (AreDigits digits.now → IsEntry (pos (digits_value 10 digits.now)) → ⊥) }
+    ensures none { IfNone result
+        (AreDigits digits.now → IsEntry (pos (digits_value 10 digits.now)) → ⊥) }
 {
     let value = magnitude(digits)?;
     if value <= ENTRY_MAX as u64 {

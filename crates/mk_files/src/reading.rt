@@ -12,11 +12,16 @@ use crate::tokens::next_token;
 use mk_model::{ENTRY_MAX, Entry};
 use std::alloc::Global;
 
-/// Reads a table, as the 4ti2 manual describes the files of matrices: the number of rows, the number of columns, and
-/// the entries row by row, with white space between the numbers and nothing behind them.
+/// Reads a table, a file of the kind that the 4ti2 manual describes: the number of rows, the number of columns, and
+/// the entries row by row, as many as rows times columns, with white space between the numbers and nothing else behind
+/// them.
 ///
-/// White space is any of the bytes 9 to 13 and 32. A number is one or more digits, maybe after a plus, and an entry
-/// maybe after a minus. `Malformed` is any other text, and one whose numbers are beyond the bounds.
+/// White space is any of the bytes 9 to 13 and 32. A number of rows or columns is one or more digits, maybe after a
+/// plus; an entry is the same, or digits after a minus. Zeros in front are read over. The bounds allow at most 4096
+/// rows and 512 columns, and entries from `-ENTRY_MAX` to `ENTRY_MAX`.
+///
+/// `Malformed` is any text that is not such a table, and one with a number beyond the bounds. `Memory` may come in its
+/// place, where there is no room for the entries in front of the fault.
 pub fn read_table(alloc: Global, bytes: &[u8], bounds: &Bounds) -> Result<Table, TableFault>
     requires rows { bounds.now.rows ≤ MAX_ROWS }
     requires columns { bounds.now.columns ≤ MAX_COLUMNS }
@@ -27,7 +32,8 @@ pub fn read_table(alloc: Global, bytes: &[u8], bounds: &Bounds) -> Result<Table,
     ensures kept { IfOk result IsTable }
 
     // A text that is a table is read as that table.
-    ensures only { (grid : Grid) → ReadsTable bytes.now (limits_of bounds.now) grid → GivesGrid grid result }
+    ensures only { (grid : Grid)
+        → ReadsTable bytes.now (limits_of bounds.now) grid → GivesGrid grid result }
     ensures malformed { IsErrOf result TableFault.Malformed
         → (grid : Grid) → ReadsTable bytes.now (limits_of bounds.now) grid → ⊥ }
 {

@@ -22,11 +22,12 @@ impl Model for Table {
 
     ghost view = { λ t. record { rows = t.rows; columns = t.columns; entries = t.entries.items } };
 
-    ghost invariant = { λ t. IsTable (record { rows = t.rows; columns = t.columns; entries = t.entries.items }) };
+    ghost invariant = { λ t.
+        IsTable (record { rows = t.rows; columns = t.columns; entries = t.entries.items }) };
 }
 
 impl Table {
-    /// The table of these rows and columns, with the entries row by row.
+    /// The table of so many rows and columns, with these entries row by row, as many as rows times columns.
     pub fn from_entries(rows: u32, columns: u32, entries: Vec<Entry>) -> Table
         requires { IsTable (record { rows = rows; columns = columns; entries = entries.items }) }
         ensures grid { result ≡ record { rows = rows; columns = columns; entries = entries.items } }
@@ -57,7 +58,7 @@ impl Table {
         self.columns
     }
 
-    /// The row `r`, counted from 0: as many entries as there are columns.
+    /// The row `r`, counted from 0 and below the number of rows: as many entries as there are columns.
     pub fn row(&self, r: u32) -> &[Entry]
         requires { r < self.now.rows }
         ensures value { slice_get (rows_of self.now) r ≡ Some result.now }

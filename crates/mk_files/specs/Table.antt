@@ -1,12 +1,8 @@
 -- What each table keeps.
-use Rattle.std.specs.Prelude.{◌≡◌, ◌*◌, ◌≤◌, length, All, ℤ, neg_ℤ, ◌≤ℤ◌}
+use Rattle.std.specs.Prelude.{◌≡◌, ◌*◌, ◌≤◌, length, All}
 use Rattle.mk_model.specs.Tables.{Grid}
-use Rattle.mk_model.specs.declared.TheConstants.{ENTRY_MAX}
+use Rattle.mk_model.specs.Vectors.{IsEntry}
 use Rattle.mk_files.specs.declared.bounds.TheConstants.{MAX_ROWS, MAX_COLUMNS}
-
--- from -ENTRY_MAX to ENTRY_MAX
-abbrev pub IsEntry : ℤ → Type 0
-IsEntry z = (neg_ℤ ENTRY_MAX ≤ℤ z) × (z ≤ℤ ENTRY_MAX)
 
 pub record IsTable (grid : Grid) : Type 0 where
   pub rows : grid.rows ≤ MAX_ROWS

@@ -3,7 +3,7 @@ ghost use Rattle.std.specs.Str.Parse.{digits_value};
 ghost use Rattle.mk_model.specs.Tables.{AreDigits, IsCount, IsNumber};
 ghost use Rattle.mk_files.specs.Bounds.{IsWithin};
 ghost use Rattle.mk_files.specs.Numbers.{without_plus};
-ghost use Rattle.mk_files.specs.Table.{IsEntry};
+ghost use Rattle.mk_model.specs.Vectors.{IsEntry};
 
 use crate::bounds::Bounds;
 use mk_model::{ENTRY_MAX, Entry};

@@ -1,6 +1,7 @@
 ghost use Rattle.std.specs.Prelude.{◌≡◌, ◌<◌, ◌≤◌, length, slice_get, All, Some};
 ghost use Rattle.mk_model.specs.Tables.{Grid, rows_of};
-ghost use Rattle.mk_files.specs.Table.{IsEntry, IsTable};
+ghost use Rattle.mk_files.specs.Table.{IsTable};
+ghost use Rattle.mk_model.specs.Vectors.{IsEntry};
 
 use crate::bounds::{MAX_COLUMNS, MAX_ROWS};
 use mk_model::Entry;

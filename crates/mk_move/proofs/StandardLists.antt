@@ -1,18 +1,13 @@
--- The standard list of columns.
+-- The standard list of columns is a priority list.
 use Rattle.std.proofs.Common.{◌≡◌, ℕ, zero, suc, ◌-◌, ◌<◌, ◌^◌, List, [], ◌∷◌, ◌++◌, length, All, Contains, refl, ap, arith, append_assoc, sub-one, sym, subst, inl, inr}
-use Rattle.std.proofs.lemmas.List.Elements.{All-cons, All-nil, All-weaker}
 use Rattle.std.proofs.lemmas.Bool.{cases_eq}
 use Rattle.mk_model.specs.Orders.{standard}
+use Rattle.mk_model.proofs.OrderLaws.{standard_within}
 use Rattle.mk_move.specs.Priorities.{IsPriority}
 
 pub length-standard : (n : ℕ) → length (standard n) ≡ n
 length-standard zero = refl
 length-standard (suc n) = ap suc (length-standard n)
-
-standard_within : (n : ℕ) → All (λ c. c < n) (standard n)
-standard_within zero = All-nil (λ c. c < 0)
-standard_within (suc n) =
-    All-cons (λ c. c < suc n) n (standard n) (omega arith) (All-weaker (λ c. c < n) (λ c. c < suc n) (λ c h. omega arith) (standard n) (standard_within n))
 
 Contains-later : (x y : ℕ) (xs : List ℕ) → Contains xs x → Contains (y ∷ xs) x
 Contains-later x y xs h = (suc h.0, omega (arith, h.1), h.2)

@@ -1,0 +1,10 @@
+pub mod Books
+pub mod Folders
+pub mod Inputs
+pub mod Lines
+pub mod MemoryFolders
+pub mod Runs
+pub mod Stages
+pub mod Texts
+pub mod Transfers
+pub mod Words

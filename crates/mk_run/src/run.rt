@@ -1,0 +1,182 @@
+//! A run for a project, from the words to the exit status.
+
+ghost use Rattle.std.specs.Prelude.{◌≡◌, ◌⊎◌, ◌≤◌, ℕ, List, map, false, None, OnOk, string_bytes};
+ghost use Rattle.mk_run.specs.Folders.{HasCause, Rose, WhereTold};
+ghost use Rattle.mk_run.specs.Lines.{input_line};
+ghost use Rattle.mk_run.specs.Runs.{Ends, EndsUnnamed, HasCauseOf, InputIsShown, SaysLine};
+ghost use Rattle.mk_run.specs.Stages.{ReadsLattice, IsTableOf, Answers, WritesAnswer, RunHasCause, IsShown, IsNotMaking};
+ghost use Rattle.mk_run.specs.Words.{NamesProject};
+
+use crate::book::{InputFault, InputFile, RunBook};
+use crate::fault::RunFault;
+use crate::folder::{Channel, DeskFault, Folder};
+use crate::lines::{self, input_line};
+use crate::names::file_name;
+use crate::solve::solve;
+use crate::status::Status;
+use crate::text::move_text;
+use crate::transfer::{load, put_all, say_all};
+use crate::words::project_of;
+use mk_files::{Bounds, Table, TableFault, read_table};
+use mk_model::ENTRY_MAX;
+use std::alloc::Global;
+
+/// The most bytes of a file.
+const FILE_LIMIT: u64 = 67108864;
+
+/// The bounds of a lattice's table.
+const LATTICE_BOUNDS: Bounds = Bounds {
+    rows: 4096,
+    columns: 512,
+    least: -ENTRY_MAX,
+    most: ENTRY_MAX,
+};
+
+/// Reads the lattice of a project and writes its minimal Markov basis, for a lattice of at most one nonzero row.
+///
+/// The words are those behind the program's name. `PROJECT.lat` is read, and `PROJECT.mar` made. The answer is the
+/// list of essential moves of the lattice with all ones as grading (Sturmfels, chapter 5), and the status says how the
+/// run ended. A run that is refused says one line on the error channel and leaves the files as they were.
+pub fn run_alone<F: Folder>(
+    alloc: Global,
+    words: &[String],
+    folder: &mut F,
+    book: &mut RunBook,
+) -> Status
+    requires book { book.old.input ≡ None }
+    requires making { (F.state folder.old).making ≡ false }
+
+    // Usage where the words name no project, unless memory ran out; and no other status does without a project.
+    ensures usage { ((project : List ℕ) → NamesProject (map string_bytes words.now) project → ⊥)
+        → (result ≡ Status.Usage) ⊎ (result ≡ Status.Memory) }
+    ensures named { result ≡ Status.Usage
+        → (project : List ℕ) → NamesProject (map string_bytes words.now) project → ⊥ }
+
+    // Each status has its cause. The book has a fault exactly where the input was refused, unless memory ran out.
+    ensures cause { HasCauseOf book.new.input (F.state folder.old) (F.state folder.new) result }
+    ensures shown { (project : List ℕ) → NamesProject (map string_bytes words.now) project →
+        InputIsShown book.new.input (F.state folder.new) result }
+
+    // The headline, and what each other ending says and leaves, where the folder tells.
+    ensures told { (project : List ℕ) → NamesProject (map string_bytes words.now) project →
+        WhereTold (F.told folder.old) (F.told folder.new)
+        (Ends project book.new.input (Rose (F.state folder.old).faults (F.state folder.new).faults) result) }
+    ensures told_unnamed { ((project : List ℕ) → NamesProject (map string_bytes words.now) project → ⊥) →
+        WhereTold (F.told folder.old) (F.told folder.new)
+        (EndsUnnamed (Rose (F.state folder.old).faults (F.state folder.new).faults) result) }
+{
+    let Some(project) = project_of(words) else {
+        return refuse(folder, Status::Usage, lines::USAGE);
+    };
+    match answer(alloc, folder, project) {
+        Ok(()) => Status::Done,
+        Err(RunFault::Input(fault)) => {
+            book.refuse(fault);
+            refuse_input(alloc, folder, project, fault)
+        }
+        Err(RunFault::Failed) => refuse(folder, Status::Folder, lines::FOLDER),
+        Err(RunFault::Memory) => refuse(folder, Status::Memory, lines::MEMORY),
+    }
+}
+
+/// The whole of a run for a project, but for saying why it is refused.
+fn answer<F: Folder>(alloc: Global, folder: &mut F, project: &str) -> Result<(), RunFault>
+    requires { (F.state folder.old).making ≡ false }
+    ensures making { IsNotMaking (F.state folder.new) result }
+    ensures cause { RunHasCause (F.state folder.old) (F.state folder.new) result }
+    ensures shown { IsShown (F.state folder.new) result }
+    ensures told { WhereTold (F.told folder.old) (F.told folder.new) (Answers project.now result) }
+{
+    let table = read_lattice(alloc, folder, project)?;
+    let moves = solve(alloc, &table)?;
+    let text = move_text(alloc, table.columns(), &moves)?;
+    Ok(write_answer(alloc, folder, project, &text)?)
+}
+
+/// Reads `PROJECT.lat` as a table.
+fn read_lattice<F: Folder>(alloc: Global, folder: &mut F, project: &str) -> Result<Table, RunFault>
+    ensures making { (F.state folder.new).making ≡ (F.state folder.old).making }
+    ensures cause { RunHasCause (F.state folder.old) (F.state folder.new) result }
+    ensures shown { IsShown (F.state folder.new) result }
+    ensures told { WhereTold (F.told folder.old) (F.told folder.new) (ReadsLattice project.now result) }
+{
+    let name = file_name(alloc, project, ".lat")?;
+    let file = load(alloc, folder, name.as_str(), FILE_LIMIT);
+    match file {
+        Err(fault) => Err(RunFault::of_load(InputFile::Lat, fault)),
+        Ok(None) => Err(RunFault::Input(InputFault::NoLattice)),
+        Ok(Some(bytes)) => lattice_table(alloc, &bytes),
+    }
+}
+
+/// The table that the bytes of a lattice file write.
+fn lattice_table(alloc: Global, bytes: &[u8]) -> Result<Table, RunFault>
+    ensures { IsTableOf bytes.now result }
+{
+    match read_table(alloc, bytes, &LATTICE_BOUNDS) {
+        Ok(table) => Ok(table),
+        Err(TableFault::Memory) => Err(RunFault::Memory),
+        Err(TableFault::Malformed) => Err(RunFault::Input(InputFault::Table {
+            file: InputFile::Lat,
+            fault: TableFault::Malformed,
+        })),
+    }
+}
+
+/// Makes `PROJECT.mar` with this text.
+fn write_answer<F: Folder>(
+    alloc: Global,
+    folder: &mut F,
+    project: &str,
+    text: &[u8],
+) -> Result<(), DeskFault>
+    requires { (F.state folder.old).making ≡ false }
+    ensures found { (F.state folder.new).found ≡ (F.state folder.old).found }
+    ensures given { (F.state folder.new).given ≡ (F.state folder.old).given }
+    ensures making { OnOk result ((F.state folder.new).making ≡ false) }
+    ensures cause { HasCause (F.state folder.old) (F.state folder.new) result }
+    ensures told { WhereTold (F.told folder.old) (F.told folder.new) (WritesAnswer project.now text.now result) }
+{
+    let name = file_name(alloc, project, ".mar")?;
+    folder.start_write(name.as_str())?;
+    put_all(folder, text)?;
+    folder.end_write()
+}
+
+/// Says a line on the error channel. The status stays, unless no memory was found to say it.
+fn refuse<F: Folder>(folder: &mut F, status: Status, line: &str) -> Status
+    ensures status { (result ≡ status) ⊎ (result ≡ Status.Memory) }
+    ensures found { (F.state folder.new).found ≡ (F.state folder.old).found }
+    ensures given { (F.state folder.new).given ≡ (F.state folder.old).given }
+    ensures making { (F.state folder.new).making ≡ (F.state folder.old).making }
+    ensures later { (F.state folder.old).faults ≤ (F.state folder.new).faults }
+    ensures told { WhereTold (F.told folder.old) (F.told folder.new)
+        (SaysLine line.now (Rose (F.state folder.old).faults (F.state folder.new).faults ⊎ (result ≡ Status.Memory))) }
+{
+    match say_all(folder, Channel::Err, line.as_bytes()) {
+        Ok(()) => status,
+        Err(DeskFault::Failed) => status,
+        Err(DeskFault::Memory) => Status::Memory,
+    }
+}
+
+/// Says the line for a fault of the input.
+fn refuse_input<F: Folder>(
+    alloc: Global,
+    folder: &mut F,
+    project: &str,
+    fault: InputFault,
+) -> Status
+    ensures status { (result ≡ Status.Input) ⊎ (result ≡ Status.Memory) }
+    ensures found { (F.state folder.new).found ≡ (F.state folder.old).found }
+    ensures given { (F.state folder.new).given ≡ (F.state folder.old).given }
+    ensures making { (F.state folder.new).making ≡ (F.state folder.old).making }
+    ensures later { (F.state folder.old).faults ≤ (F.state folder.new).faults }
+    ensures told { WhereTold (F.told folder.old) (F.told folder.new)
+        (SaysLine (input_line project.now fault) (Rose (F.state folder.old).faults (F.state folder.new).faults ⊎ (result ≡ Status.Memory))) }
+{
+    match input_line(alloc, project, fault) {
+        Ok(line) => refuse(folder, Status::Input, line.as_str()),
+        Err(_) => Status::Memory,
+    }
+}

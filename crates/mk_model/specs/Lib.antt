@@ -5,3 +5,6 @@ pub mod Orders
 pub mod Bases
 pub mod Tables
 pub mod Texts
+pub mod Reductions
+pub mod Pairs
+pub mod Saturation

@@ -7,3 +7,7 @@ pub mod LatticeLaws
 pub mod MoveLaws
 pub mod AnswerLaws
 pub mod OneRow
+pub mod Translation
+pub mod Divisors
+pub mod Ranks
+pub mod Confluence

@@ -5,6 +5,11 @@ ghost use Rattle.mk_model.specs.Vectors.{negate};
 ghost use Rattle.mk_model.specs.Lattices.{IsGrading, nonzero_rows};
 ghost use Rattle.mk_model.specs.Orders.{standard, IsOriented};
 ghost use Rattle.mk_model.specs.Bases.{IsTheAnswer};
+ghost use Rattle.std.specs.Prelude.{Bool, IsTrue};
+ghost use Rattle.mk_model.specs.Vectors.{add, IsPoint};
+ghost use Rattle.mk_model.specs.Walks.{Joined, Members};
+ghost use Rattle.mk_model.specs.Reductions.{Meet};
+ghost use Rattle.mk_model.specs.Pairs.{AreOrientedMoves, EveryPairJoined};
 
 /// A lattice of zero rows has no move, and the answer has none.
 pub fn answer_without_rows()
@@ -17,4 +22,19 @@ pub fn answer_of_one_row()
     ensures { (n : ℕ) (rows : List (List ℤ)) (w row m : List ℤ) → IsGrading n rows w →
         nonzero_rows rows ≡ row ∷ [] → (m ≡ row) ⊎ (m ≡ negate row) → IsOriented (standard n) m →
         IsTheAnswer n rows w (m ∷ []) }
+{}
+
+/// Two joined vectors stay joined where the same nonnegative vector is added to both.
+pub fn join_translate()
+    ensures by_list { (n : ℕ) (moves : List (List ℤ)) (x y t : List ℤ) →
+        Joined n (Members moves) x y → IsPoint n t → Joined n (Members moves) (add x t) (add y t) }
+    ensures by_test { (n : ℕ) (test : List ℤ → Bool) (x y t : List ℤ) →
+        Joined n (λ m. IsTrue (test m)) x y → IsPoint n t → Joined n (λ m. IsTrue (test m)) (add x t) (add y t) }
+{}
+
+/// Where every pair of the moves is joined below, any two joined vectors step down to one common vector.
+pub fn confluence_from_pairs()
+    ensures { (n : ℕ) (rows : List (List ℤ)) (w : List ℤ) (priority : List ℕ) (moves : List (List ℤ)) →
+        AreOrientedMoves n rows w priority moves → EveryPairJoined n priority moves →
+        (x y : List ℤ) → Joined n (Members moves) x y → Meet moves x y }
 {}

@@ -1,0 +1,62 @@
+-- Least common multiples, and vectors that divide others.
+use Rattle.std.proofs.Common.{◌≡◌, ℕ, ◌+◌, ◌≤◌, max, List, length, ℤ, pos, ◌≤ℤ◌, arith, refl}
+use Rattle.std.proofs.lemmas.Int.{ints, clamps, int_max_is}
+use Rattle.std.specs.Int.{int_max}
+use borrow.Author.Differences.{up, down}
+use Rattle.mk_model.specs.Vectors.{entry, subtract, IsPoint}
+use Rattle.mk_model.specs.Orders.{lead}
+use Rattle.mk_model.specs.Reductions.{lcm, Divides}
+use Rattle.mk_model.proofs.VectorAlgebra.{lengths, columns, same_vectors, length-combine, entry-combine, entry-positive_part}
+
+pub length-lcm : (x y : List ℤ) → length (lcm x y) ≡ max (length x) (length y)
+unfolding lcm
+length-lcm x y = length-combine int_max x y
+
+pub entry-lcm : (x y : List ℤ) (c : ℕ) → entry (lcm x y) c ≡ int_max (entry x c) (entry y c)
+unfolding lcm
+entry-lcm x y c = entry-combine int_max refl x y c
+
+pub lcm_at : (x y : List ℤ) (c : ℕ) → up (entry (lcm x y) c) + down (entry x c) + down (entry y c) ≡ down (entry (lcm x y) c) + max (up (entry x c) + down (entry y c)) (up (entry y c) + down (entry x c))
+lcm_at x y c = simp entry-lcm (int_max_is (entry x c) (entry y c))
+
+pub lcm-comm : (x y : List ℤ) → lcm x y ≡ lcm y x
+lcm-comm x y = same_vectors _ _ (omega (arith, length-lcm)) (λ c. omega (arith, ints, lcm_at x y c, lcm_at y x c))
+
+pub Divides-itself : (x : List ℤ) → Divides x x
+Divides-itself x = record { entries = λ c. omega (arith, ints) }
+
+pub Divides-transitive : {x y z : List ℤ} → Divides x y → Divides y z → Divides x z
+Divides-transitive h k = record { entries = λ c. omega (arith, ints, h.entries c, k.entries c) }
+
+pub Divides-lcm_first : (x y : List ℤ) → Divides x (lcm x y)
+Divides-lcm_first x y = record { entries = λ c. omega (arith, ints, lcm_at x y c) }
+
+pub Divides-lcm_second : (x y : List ℤ) → Divides y (lcm x y)
+Divides-lcm_second x y = record { entries = λ c. omega (arith, ints, lcm_at x y c) }
+
+pub lcm_divides : {x y z : List ℤ} → Divides x z → Divides y z → Divides (lcm x y) z
+lcm_divides {x} {y} {z} h k = record { entries = λ c. omega (arith, ints, lcm_at x y c, h.entries c, k.entries c) }
+
+pub IsPoint-lcm : {n : ℕ} {x y : List ℤ} → IsPoint n x → IsPoint n y → IsPoint n (lcm x y)
+IsPoint-lcm {n} {x} {y} p q =
+    record { columns = omega (arith, length-lcm, p.columns, q.columns); nonnegative = λ c. omega (arith, ints, lcm_at x y c, p.nonnegative c, q.nonnegative c) }
+
+-- what divides a point leaves a point
+pub IsPoint-quotient : {n : ℕ} {x y : List ℤ} → IsPoint n x → length y ≤ n → Divides y x → IsPoint n (subtract x y)
+IsPoint-quotient p l h =
+    record { columns = omega (arith, lengths, p.columns); nonnegative = λ c. omega (arith, ints, columns, h.entries c) }
+
+-- a move whose lead divides a point leaves a point
+pub IsPoint-lower : {n : ℕ} {x : List ℤ} (m : List ℤ) → IsPoint n x → length m ≤ n → Divides (lead m) x → IsPoint n (subtract x m)
+IsPoint-lower m p l h =
+    record { columns = omega (arith, lengths, p.columns); nonnegative = λ c. omega (arith, ints, columns, h.entries c) }
+
+-- and back: where a point less a move is a point, the lead divides it
+pub lead_divides : {n : ℕ} (x m : List ℤ) → IsPoint n x → IsPoint n (subtract x m) → Divides (lead m) x
+lead_divides x m p q = record { entries = λ c. go c (p.nonnegative c) (q.nonnegative c) }
+  where
+    clamp : (a b : ℤ) → pos 0 ≤ℤ b → a ≤ℤ b → int_max a (pos 0) ≤ℤ b
+    clamp a b h k = omega (arith, ints, clamps)
+
+    go : (c : ℕ) → pos 0 ≤ℤ entry x c → pos 0 ≤ℤ entry (subtract x m) c → entry (lead m) c ≤ℤ entry x c
+    go c h k = simp entry-positive_part (clamp (entry m c) (entry x c) h (omega (arith, ints, columns)))

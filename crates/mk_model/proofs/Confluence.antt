@@ -9,7 +9,7 @@ use Rattle.mk_model.specs.Lattices.{InLattice}
 use Rattle.mk_model.specs.Walks.{IsStep, Walk, Members, Joined}
 use Rattle.mk_model.specs.Walks.Walk.{stay, step}
 use Rattle.mk_model.specs.Orders.{IsBelow, IsOriented, lead}
-use Rattle.mk_model.specs.Reductions.{lcm, Reaches, IsDescent, Meet}
+use Rattle.mk_model.specs.Reductions.{lcm, Divides, Reaches, IsDescent, Meet}
 use Rattle.mk_model.specs.Reductions.Reaches.{here, go}
 use Rattle.mk_model.specs.Pairs.{AreOrientedMoves, IsPointBelow, JoinedBelow, EveryPairJoined}
 use Rattle.mk_model.proofs.VectorAlgebra.{lengths, columns, same_vectors, weight-add, weight-subtract, subtract-add, add_difference, IsPoint-positive_part, IsPoint-add}
@@ -39,6 +39,10 @@ module _ {n : ℕ} {rows : List (List ℤ)} {w : List ℤ} {p : List ℕ} {moves
   -- ---- one step down
   pub descent_point : {x y : List ℤ} → IsPoint n x → IsDescent moves x y → IsPoint n y
   descent_point q d = rw d.below (IsPoint-lower d.move q (omega (arith, member_columns d.move d.member)) d.divides)
+
+  pub reach_point : {x y : List ℤ} → IsPoint n x → Reaches (IsDescent moves) x y → IsPoint n y
+  reach_point q here = q
+  reach_point q (go d r) = reach_point (descent_point q d) r
 
   pub descent_below : {x y : List ℤ} → IsPoint n x → IsDescent moves x y → IsBelow p y x
   descent_below {x} {y} q d =
@@ -102,34 +106,38 @@ module _ {n : ℕ} {rows : List (List ℤ)} {w : List ℤ} {p : List ℕ} {moves
       go (inr (inl c)) = JoinedBelow-swap b a (rw (g, e) at (pairs j i a c l))
       go (inr (inr c)) = let d : a ≡ b = sym e ∙ ap (λ k. get_or moves k a) c ∙ g in subst (JoinedBelow n p moves a) d (JoinedBelow-same a (i, l, e))
 
-  -- two steps down from one point, joined below it
-  peak : EveryPairJoined n p moves → {x a b : List ℤ} → IsPoint n x → IsDescent moves x a → IsDescent moves x b → Walk (Members moves) (IsPointBelow n p x) a b
-  peak pairs {x} {a} {b} q d e =
-      rw (d.below, e.below, ← first, ← second) (walk_translate t shift (joined_pair pairs d.move e.move d.member e.member))
+  -- the walk of a pair, moved up to a multiple of its least common multiple
+  pub joined_under : (a b x : List ℤ) → Contains moves a → Contains moves b → IsPoint n x → Divides (lcm (lead a) (lead b)) x → JoinedBelow n p moves a b → Walk (Members moves) (IsPointBelow n p x) (subtract x a) (subtract x b)
+  joined_under a b x h k q d j = rw (← first, ← second) (walk_translate t shift j)
     where
       l : List ℤ
-      l = lcm (lead d.move) (lead e.move)
+      l = lcm (lead a) (lead b)
 
       t : List ℤ
       t = subtract x l
 
       top : IsPoint n l
-      top = lcm_point d.move e.move d.member e.member
+      top = lcm_point a b h k
 
       rest : IsPoint n t
-      rest = IsPoint-quotient q (omega (arith, top.columns)) (lcm_divides d.divides e.divides)
+      rest = IsPoint-quotient q (omega (arith, top.columns)) d
 
       whole : add l t ≡ x
       whole = add_difference x l (q.columns ∙ sym top.columns)
 
-      first : add (subtract l d.move) t ≡ subtract x d.move
-      first = subtract-exchange_last l d.move t ∙ ap (λ v. subtract v d.move) whole
+      first : add (subtract l a) t ≡ subtract x a
+      first = subtract-exchange_last l a t ∙ ap (λ v. subtract v a) whole
 
-      second : add (subtract l e.move) t ≡ subtract x e.move
-      second = subtract-exchange_last l e.move t ∙ ap (λ v. subtract v e.move) whole
+      second : add (subtract l b) t ≡ subtract x b
+      second = subtract-exchange_last l b t ∙ ap (λ v. subtract v b) whole
 
       shift : (z : List ℤ) → IsPointBelow n p l z → IsPointBelow n p x (add z t)
       shift z h = record { point = IsPoint-add h.point rest; below = subst (IsBelow p (add z t)) whole (IsBelow-add p z l t h.below) }
+
+  -- two steps down from one point, joined below it
+  peak : EveryPairJoined n p moves → {x a b : List ℤ} → IsPoint n x → IsDescent moves x a → IsDescent moves x b → Walk (Members moves) (IsPointBelow n p x) a b
+  peak pairs {x} {a} {b} q d e =
+      rw (d.below, e.below) (joined_under d.move e.move x d.member e.member q (lcm_divides d.divides e.divides) (joined_pair pairs d.move e.move d.member e.member))
 
   -- ---- walks whose vertices have one weight, and a rank less than a bound
   record IsVertex (W : ℤ) (t : ℕ) (x : List ℤ) : Type 0 where

@@ -1,12 +1,12 @@
 -- Least common multiples, and vectors that divide others.
-use Rattle.std.proofs.Common.{◌≡◌, ℕ, ◌+◌, ◌≤◌, max, List, length, ℤ, pos, ◌≤ℤ◌, arith, refl}
+use Rattle.std.proofs.Common.{◌≡◌, ℕ, ◌+◌, ◌≤◌, max, List, length, ℤ, pos, ◌-ℤ◌, ◌≤ℤ◌, arith, refl}
 use Rattle.std.proofs.lemmas.Int.{ints, clamps, int_max_is}
 use Rattle.std.specs.Int.{int_max}
 use borrow.Author.Differences.{up, down}
-use Rattle.mk_model.specs.Vectors.{entry, subtract, IsPoint}
+use Rattle.mk_model.specs.Vectors.{entry, subtract, positive_part, negative_part, IsPoint}
 use Rattle.mk_model.specs.Orders.{lead}
 use Rattle.mk_model.specs.Reductions.{lcm, Divides}
-use Rattle.mk_model.proofs.VectorAlgebra.{lengths, columns, same_vectors, length-combine, entry-combine, entry-positive_part}
+use Rattle.mk_model.proofs.VectorAlgebra.{lengths, columns, same_vectors, length-combine, entry-combine, entry-positive_part, entry-subtract, positive_part-negate, negate-subtract}
 
 pub length-lcm : (x y : List ℤ) → length (lcm x y) ≡ max (length x) (length y)
 unfolding lcm
@@ -60,3 +60,13 @@ lead_divides x m p q = record { entries = λ c. go c (p.nonnegative c) (q.nonneg
 
     go : (c : ℕ) → pos 0 ≤ℤ entry x c → pos 0 ≤ℤ entry (subtract x m) c → entry (lead m) c ≤ℤ entry x c
     go c h k = simp entry-positive_part (clamp (entry m c) (entry x c) h (omega (arith, ints, columns)))
+
+-- the parts of the difference of two points divide them
+pub Divides-positive_part : {n : ℕ} {a b : List ℤ} → IsPoint n a → IsPoint n b → Divides (positive_part (subtract a b)) a
+Divides-positive_part {n} {a} {b} p q = record { entries = λ c. simp (entry-positive_part, entry-subtract) (clamp (entry a c) (entry b c) (p.nonnegative c) (q.nonnegative c)) }
+  where
+    clamp : (a b : ℤ) → pos 0 ≤ℤ a → pos 0 ≤ℤ b → int_max (a -ℤ b) (pos 0) ≤ℤ a
+    clamp a b h k = omega (arith, ints, clamps)
+
+pub Divides-negative_part : {n : ℕ} {a b : List ℤ} → IsPoint n a → IsPoint n b → Divides (negative_part (subtract a b)) b
+Divides-negative_part {n} {a} {b} p q = rw (← positive_part-negate, negate-subtract) (Divides-positive_part q p)

@@ -11,3 +11,4 @@ pub mod Translation
 pub mod Divisors
 pub mod Ranks
 pub mod Confluence
+pub mod Reducts

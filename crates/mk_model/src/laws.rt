@@ -5,11 +5,12 @@ ghost use Rattle.mk_model.specs.Vectors.{negate};
 ghost use Rattle.mk_model.specs.Lattices.{IsGrading, nonzero_rows};
 ghost use Rattle.mk_model.specs.Orders.{standard, IsOriented};
 ghost use Rattle.mk_model.specs.Bases.{IsTheAnswer};
-ghost use Rattle.std.specs.Prelude.{Bool, IsTrue};
-ghost use Rattle.mk_model.specs.Vectors.{add, IsPoint};
+ghost use Rattle.std.specs.Prelude.{Bool, IsTrue, Contains};
+ghost use Rattle.mk_model.specs.Vectors.{zeros, add, subtract, IsPoint};
 ghost use Rattle.mk_model.specs.Walks.{Joined, Members};
-ghost use Rattle.mk_model.specs.Reductions.{Meet};
-ghost use Rattle.mk_model.specs.Pairs.{AreOrientedMoves, EveryPairJoined};
+ghost use Rattle.mk_model.specs.Orders.{lead};
+ghost use Rattle.mk_model.specs.Reductions.{lcm, Divides, Meet, Reduct};
+ghost use Rattle.mk_model.specs.Pairs.{AreOrientedMoves, JoinedBelow, EveryPairJoined, AreDisjoint};
 
 /// A lattice of zero rows has no move, and the answer has none.
 pub fn answer_without_rows()
@@ -37,4 +38,21 @@ pub fn confluence_from_pairs()
     ensures { (n : ℕ) (rows : List (List ℤ)) (w : List ℤ) (priority : List ℕ) (moves : List (List ℤ)) →
         AreOrientedMoves n rows w priority moves → EveryPairJoined n priority moves →
         (x y : List ℤ) → Joined n (Members moves) x y → Meet moves x y }
+{}
+
+/// Four reasons why two moves of a list are joined below the least common multiple of their leads.
+pub fn join_chain()
+    ensures disjoint { (n : ℕ) (rows : List (List ℤ)) (w : List ℤ) (priority : List ℕ) (moves : List (List ℤ)) (a b : List ℤ) →
+        AreOrientedMoves n rows w priority moves → Contains moves a → Contains moves b →
+        AreDisjoint (lead a) (lead b) → JoinedBelow n priority moves a b }
+    ensures chain { (n : ℕ) (rows : List (List ℤ)) (w : List ℤ) (priority : List ℕ) (moves : List (List ℤ)) (a b third : List ℤ) →
+        AreOrientedMoves n rows w priority moves → Contains moves a → Contains moves b → Contains moves third →
+        Divides (lead third) (lcm (lead a) (lead b)) →
+        JoinedBelow n priority moves a third → JoinedBelow n priority moves b third → JoinedBelow n priority moves a b }
+    ensures zero_reduct { (n : ℕ) (rows : List (List ℤ)) (w : List ℤ) (priority : List ℕ) (moves : List (List ℤ)) (a b : List ℤ) →
+        AreOrientedMoves n rows w priority moves → Contains moves a → Contains moves b →
+        Reduct moves (subtract b a) (zeros n) → JoinedBelow n priority moves a b }
+    ensures member_reduct { (n : ℕ) (rows : List (List ℤ)) (w : List ℤ) (priority : List ℕ) (moves : List (List ℤ)) (a b r : List ℤ) →
+        AreOrientedMoves n rows w priority moves → Contains moves a → Contains moves b →
+        Reduct moves (subtract b a) r → Contains moves r ⊎ Contains moves (negate r) → JoinedBelow n priority moves a b }
 {}

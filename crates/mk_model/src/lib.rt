@@ -6,7 +6,9 @@
 
 mod laws;
 
-pub use laws::{answer_of_one_row, answer_without_rows, confluence_from_pairs, join_translate};
+pub use laws::{
+    answer_of_one_row, answer_without_rows, confluence_from_pairs, join_chain, join_translate,
+};
 use std::alloc::{AllocError, AllocFailed};
 
 /// An entry of a lattice or of a move: from `-ENTRY_MAX` to `ENTRY_MAX`.

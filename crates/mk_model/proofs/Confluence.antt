@@ -139,27 +139,29 @@ module _ {n : ℕ} {rows : List (List ℤ)} {w : List ℤ} {p : List ℕ} {moves
   peak pairs {x} {a} {b} q d e =
       rw (d.below, e.below) (joined_under d.move e.move x d.member e.member q (lcm_divides d.divides e.divides) (joined_pair pairs d.move e.move d.member e.member))
 
+  -- ---- ranks
+  lower_rank : (W : ℤ) (x z : List ℤ) → IsPoint n x → weight w x ≡ W → IsPointBelow n p x z → weight w z ≡ W → rank (up W) p z < rank (up W) p x
+  lower_rank W x z q e b f = rank_below (up W) p z x (rw f at (IsBounded-weight o.grading b.point)) (rw e at (IsBounded-weight o.grading q)) b.below
+
+  pub descent_weight : {x y : List ℤ} → IsPoint n x → IsDescent moves x y → weight w y ≡ weight w x
+  descent_weight q d = step_weight q (d.move, d.member, inr d.below)
+
+  pub descent_rank : (W : ℤ) (x y : List ℤ) → IsPoint n x → weight w x ≡ W → IsDescent moves x y → rank (up W) p y < rank (up W) p x
+  descent_rank W x y q e d = lower_rank W x y q e (point_below_from_descent q d) (descent_weight q d ∙ e)
+
   -- ---- walks whose vertices have one weight, and a rank less than a bound
   record IsVertex (W : ℤ) (t : ℕ) (x : List ℤ) : Type 0 where
     pub point : IsPoint n x
     pub weighs : weight w x ≡ W
     pub ranked : rank (up W) p x < t
 
-  lower_rank : (W : ℤ) (x z : List ℤ) → IsPoint n x → weight w x ≡ W → IsPointBelow n p x z → weight w z ≡ W → rank (up W) p z < rank (up W) p x
-  lower_rank W x z q e b f = rank_below (up W) p z x (rw f at (IsBounded-weight o.grading b.point)) (rw e at (IsBounded-weight o.grading q)) b.below
-
   vertex_below : (W : ℤ) (t : ℕ) (x z : List ℤ) → IsVertex W (suc t) x → IsPointBelow n p x z → weight w z ≡ W → IsVertex W t z
   vertex_below W t x z v b e =
       record { point = b.point; weighs = e; ranked = omega (arith, v.ranked, lower_rank W x z v.point v.weighs b e) }
 
-  descent_weight : {x y : List ℤ} → IsPoint n x → IsDescent moves x y → weight w y ≡ weight w x
-  descent_weight q d = step_weight q (d.move, d.member, inr d.below)
-
   vertex_descent : (W : ℤ) (t : ℕ) (x y : List ℤ) → IsVertex W t x → IsDescent moves x y → IsVertex W t y
   vertex_descent W t x y v d =
-      let e : weight w y ≡ W = descent_weight v.point d ∙ v.weighs in
-      let b : IsPointBelow n p x y = point_below_from_descent v.point d in
-      record { point = b.point; weighs = e; ranked = omega (arith, v.ranked, lower_rank W x y v.point v.weighs b e) }
+      record { point = descent_point v.point d; weighs = descent_weight v.point d ∙ v.weighs; ranked = omega (arith, v.ranked, descent_rank W x y v.point v.weighs d) }
 
   -- from a walk's second vertex on, two vectors have met
   around : EveryPairJoined n p moves → (W : ℤ) (t : ℕ) → ((u v : List ℤ) → Walk (Members moves) (IsVertex W t) u v → Meet moves u v) → (u x v : List ℤ) → IsVertex W (suc t) x →

@@ -1,11 +1,18 @@
 -- Least common multiples, and vectors that divide others.
-use Rattle.std.proofs.Common.{◌≡◌, ℕ, ◌+◌, ◌≤◌, max, List, length, ℤ, pos, ◌-ℤ◌, ◌≤ℤ◌, arith, refl}
+use Rattle.std.proofs.Common.{◌≡◌, ◌⊎◌, inl, inr, ℕ, ◌+◌, ◌≤◌, ◌<◌, max, List, length, ℤ, pos, ◌-ℤ◌, ◌≤ℤ◌, arith, refl}
 use Rattle.std.proofs.lemmas.Int.{ints, clamps, int_max_is}
 use Rattle.std.specs.Int.{int_max}
 use borrow.Author.Differences.{up, down}
 use Rattle.mk_model.specs.Vectors.{entry, subtract, positive_part, negative_part, IsPoint}
 use Rattle.mk_model.specs.Orders.{lead}
 use Rattle.mk_model.specs.Reductions.{lcm, Divides}
+use Rattle.std.specs.Prelude.{int_le, All}
+use Rattle.std.specs.Bool.{Decides}
+use Rattle.std.specs.List.{list_all}
+use Rattle.std.proofs.lemmas.Bool.{cases_lt}
+use Rattle.std.proofs.lemmas.Bool.Decides.{Decides-like, Decides-by_and}
+use Rattle.std.proofs.lemmas.List.{get_or_past, get_or_default}
+use Rattle.mk_model.specs.Saturation.{divides}
 use Rattle.mk_model.proofs.VectorAlgebra.{lengths, columns, same_vectors, length-combine, entry-combine, entry-positive_part, entry-subtract, positive_part-negate, negate-subtract}
 
 pub length-lcm : (x y : List ℤ) → length (lcm x y) ≡ max (length x) (length y)
@@ -70,3 +77,25 @@ Divides-positive_part {n} {a} {b} p q = record { entries = λ c. simp (entry-pos
 
 pub Divides-negative_part : {n : ℕ} {a b : List ℤ} → IsPoint n a → IsPoint n b → Divides (negative_part (subtract a b)) b
 Divides-negative_part {n} {a} {b} p q = rw (← positive_part-negate, negate-subtract) (Divides-positive_part q p)
+
+-- ---- the test
+Decides-int_le : (a b : ℤ) → Decides (int_le a b) (a ≤ℤ b)
+Decides-int_le a b = ((λ e. grind (arith, ints)), (λ h. grind (arith, ints)))
+
+pub Decides-divides : (x y : List ℤ) → Decides (divides x y) (Divides x y)
+unfolding divides
+Decides-divides x y =
+    Decides-like (divides x y) there back (Decides-by_and (λ a. int_le a (pos 0)) (λ a. a ≤ℤ pos 0) (list_all (λ a. int_le a (pos 0))) (λ a. Decides-int_le a (pos 0)) refl (λ _ _. refl) (subtract x y))
+  where
+    there : All (λ a. a ≤ℤ pos 0) (subtract x y) → Divides x y
+    there h = record { entries = λ c. at h c (cases_lt c (length (subtract x y))) }
+      where
+        at : All (λ a. a ≤ℤ pos 0) (subtract x y) → (c : ℕ) → (c < length (subtract x y)) ⊎ (length (subtract x y) ≤ c) → entry x c ≤ℤ entry y c
+        at h c (inl l) = omega (arith, ints, columns, h c (pos 0) l)
+        at h c (inr l) =
+            let f : entry x c ≡ pos 0 = get_or_past x c (pos 0) (omega (arith, lengths)) in
+            let g : entry y c ≡ pos 0 = get_or_past y c (pos 0) (omega (arith, lengths)) in
+            omega (arith, ints)
+
+    back : Divides x y → All (λ a. a ≤ℤ pos 0) (subtract x y)
+    back h k d l = rw (get_or_default (subtract x y) k d (pos 0) l) (omega (arith, ints, columns, h.entries k))

@@ -12,3 +12,6 @@ pub mod Divisors
 pub mod Ranks
 pub mod Confluence
 pub mod Reducts
+pub mod NormalForms
+pub mod Dropping
+pub mod Connections

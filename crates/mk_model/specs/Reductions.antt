@@ -45,8 +45,12 @@ pub record IsReduction (moves : List (List ℤ)) (r reduced : List ℤ) : Type 0
 abbrev pub Reduct : List (List ℤ) → List ℤ → List ℤ → Type 0
 Reduct moves r reduced = Reaches (IsReduction moves) r reduced
 
+-- no lead divides x: there is no step down from it
+abbrev pub IsIrreducible : List (List ℤ) → List ℤ → Type 0
+IsIrreducible moves x = (v : List ℤ) → Contains moves v → ¬ (Divides (lead v) x)
+
 -- r is not zero, and no lead divides its positive part or its negative part
 pub record IsNormal (moves : List (List ℤ)) (r : List ℤ) : Type 0 where
   pub not_zero : is_zero r ≡ false
-  pub positive : (v : List ℤ) → Contains moves v → ¬ (Divides (lead v) (positive_part r))
-  pub negative : (v : List ℤ) → Contains moves v → ¬ (Divides (lead v) (negative_part r))
+  pub positive : IsIrreducible moves (positive_part r)
+  pub negative : IsIrreducible moves (negative_part r)

@@ -5,12 +5,14 @@ ghost use Rattle.mk_model.specs.Vectors.{negate};
 ghost use Rattle.mk_model.specs.Lattices.{IsGrading, nonzero_rows};
 ghost use Rattle.mk_model.specs.Orders.{standard, IsOriented};
 ghost use Rattle.mk_model.specs.Bases.{IsTheAnswer};
-ghost use Rattle.std.specs.Prelude.{Bool, IsTrue, Contains};
-ghost use Rattle.mk_model.specs.Vectors.{zeros, add, subtract, IsPoint};
+ghost use Rattle.std.specs.Prelude.{Bool, IsTrue, All, Contains, pos, ◌≤ℤ◌};
+ghost use Rattle.mk_model.specs.Vectors.{entry, zeros, add, subtract, negative_part, IsPoint};
 ghost use Rattle.mk_model.specs.Walks.{Joined, Members};
 ghost use Rattle.mk_model.specs.Orders.{lead};
 ghost use Rattle.mk_model.specs.Reductions.{lcm, Divides, Meet, Reduct};
 ghost use Rattle.mk_model.specs.Pairs.{AreOrientedMoves, JoinedBelow, EveryPairJoined, AreDisjoint};
+ghost use Rattle.mk_model.specs.Lattices.{InLattice};
+ghost use Rattle.mk_model.specs.Saturation.{IsSupported, without_column, ConnectedUpTo, drop_redundant};
 
 /// A lattice of zero rows has no move, and the answer has none.
 pub fn answer_without_rows()
@@ -55,4 +57,29 @@ pub fn join_chain()
     ensures member_reduct { (n : ℕ) (rows : List (List ℤ)) (w : List ℤ) (priority : List ℕ) (moves : List (List ℤ)) (a b r : List ℤ) →
         AreOrientedMoves n rows w priority moves → Contains moves a → Contains moves b →
         Reduct moves (subtract b a) r → Contains moves r ⊎ Contains moves (negate r) → JoinedBelow n priority moves a b }
+{}
+
+/// What keeps a list connected up to columns, and what dropping its redundant moves leaves: with other moves that join
+/// what the list joins; without a column, where every pair is joined below for a priority list that begins with it;
+/// and without redundant moves the list joins the same, with every pair joined below.
+pub fn conn_drop()
+    ensures by_others { (n : ℕ) (rows : List (List ℤ)) (columns : ℕ → Bool) (moves others : List (List ℤ)) →
+        ((x y : List ℤ) → Joined n (Members moves) x y → Joined n (Members others) x y) →
+        ConnectedUpTo n rows columns moves → ConnectedUpTo n rows columns others }
+    ensures completed_column { (n : ℕ) (rows : List (List ℤ)) (w : List ℤ) (i : ℕ) (priority : List ℕ) (columns : ℕ → Bool) (moves : List (List ℤ)) →
+        AreOrientedMoves n rows w (i ∷ priority) moves → EveryPairJoined n (i ∷ priority) moves →
+        ConnectedUpTo n rows columns moves → ConnectedUpTo n rows (without_column columns i) moves }
+    ensures joins_the_same { (n : ℕ) (rows : List (List ℤ)) (w : List ℤ) (priority : List ℕ) (moves : List (List ℤ)) →
+        AreOrientedMoves n rows w priority moves → EveryPairJoined n priority moves →
+        (x y : List ℤ) → Joined n (Members moves) x y → Joined n (Members (drop_redundant moves)) x y }
+    ensures pairs_stay_joined { (n : ℕ) (rows : List (List ℤ)) (w : List ℤ) (priority : List ℕ) (moves : List (List ℤ)) →
+        AreOrientedMoves n rows w priority moves → EveryPairJoined n priority moves → EveryPairJoined n priority (drop_redundant moves) }
+{}
+
+/// A column leaves where a move, or its negative, has its negative part within the columns and is positive there.
+pub fn conn_free()
+    ensures { (n : ℕ) (rows : List (List ℤ)) (w : List ℤ) (columns : ℕ → Bool) (i : ℕ) (moves : List (List ℤ)) (u : List ℤ) →
+        IsGrading n rows w → All (InLattice n rows) moves → Contains moves u ⊎ Contains moves (negate u) →
+        IsSupported columns (negative_part u) → pos 1 ≤ℤ entry u i →
+        ConnectedUpTo n rows columns moves → ConnectedUpTo n rows (without_column columns i) moves }
 {}

@@ -7,7 +7,8 @@
 mod laws;
 
 pub use laws::{
-    answer_of_one_row, answer_without_rows, confluence_from_pairs, join_chain, join_translate,
+    answer_of_one_row, answer_without_rows, confluence_from_pairs, conn_drop, conn_free,
+    join_chain, join_translate,
 };
 use std::alloc::{AllocError, AllocFailed};
 

@@ -15,3 +15,4 @@ pub mod Reducts
 pub mod NormalForms
 pub mod Dropping
 pub mod Connections
+pub mod ReductionExamples

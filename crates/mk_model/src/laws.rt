@@ -5,7 +5,7 @@ ghost use Rattle.mk_model.specs.Vectors.{negate};
 ghost use Rattle.mk_model.specs.Lattices.{IsGrading, nonzero_rows};
 ghost use Rattle.mk_model.specs.Orders.{standard, IsOriented};
 ghost use Rattle.mk_model.specs.Bases.{IsTheAnswer};
-ghost use Rattle.std.specs.Prelude.{Bool, IsTrue, All, Contains, pos, ◌≤ℤ◌};
+ghost use Rattle.std.specs.Prelude.{Bool, IsTrue, All, Contains, pos, neg_ℤ, ◌≤ℤ◌};
 ghost use Rattle.mk_model.specs.Vectors.{entry, zeros, add, subtract, negative_part, IsPoint};
 ghost use Rattle.mk_model.specs.Walks.{Joined, Members};
 ghost use Rattle.mk_model.specs.Orders.{lead};
@@ -82,4 +82,16 @@ pub fn conn_free()
         IsGrading n rows w → All (InLattice n rows) moves → Contains moves u ⊎ Contains moves (negate u) →
         IsSupported columns (negative_part u) → pos 1 ≤ℤ entry u i →
         ConnectedUpTo n rows columns moves → ConnectedUpTo n rows (without_column columns i) moves }
+{}
+
+/// On the twisted cubic `(1 -3 3 -1)` reduces to 0 by two moves that the standard list orients, and of the moves
+/// `(2 -2)`, `(1 -1)` and `(1 -1)` one is not redundant.
+pub fn reduction_examples()
+    ensures oriented { All (IsOriented (standard 4))
+        ((neg_ℤ (pos 1) ∷ pos 2 ∷ neg_ℤ (pos 1) ∷ pos 0 ∷ []) ∷ (pos 0 ∷ neg_ℤ (pos 1) ∷ pos 2 ∷ neg_ℤ (pos 1) ∷ []) ∷ []) }
+    ensures reduct { Reduct
+        ((neg_ℤ (pos 1) ∷ pos 2 ∷ neg_ℤ (pos 1) ∷ pos 0 ∷ []) ∷ (pos 0 ∷ neg_ℤ (pos 1) ∷ pos 2 ∷ neg_ℤ (pos 1) ∷ []) ∷ [])
+        (pos 1 ∷ neg_ℤ (pos 3) ∷ pos 3 ∷ neg_ℤ (pos 1) ∷ []) (zeros 4) }
+    ensures redundant { drop_redundant ((pos 2 ∷ neg_ℤ (pos 2) ∷ []) ∷ (pos 1 ∷ neg_ℤ (pos 1) ∷ []) ∷ (pos 1 ∷ neg_ℤ (pos 1) ∷ []) ∷ [])
+        ≡ (pos 1 ∷ neg_ℤ (pos 1) ∷ []) ∷ [] }
 {}

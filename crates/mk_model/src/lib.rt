@@ -8,7 +8,7 @@ mod laws;
 
 pub use laws::{
     answer_of_one_row, answer_without_rows, confluence_from_pairs, conn_drop, conn_free,
-    join_chain, join_translate,
+    join_chain, join_translate, reduction_examples,
 };
 use std::alloc::{AllocError, AllocFailed};
 

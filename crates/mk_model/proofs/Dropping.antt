@@ -1,11 +1,12 @@
 -- The list without its redundant moves: a part of the list, whose leads divide all leads.
-use Rattle.std.proofs.Common.{◌≡◌, ◌⊎◌, inl, inr, Bool, true, false, not, ◌&&◌, List, [], ◌∷◌, ◌++◌, ℤ, Contains, refl, sym, subst, ⊎_elim}
+use Rattle.std.proofs.Common.{◌≡◌, ◌⊎◌, inl, inr, zero, suc, Bool, true, false, not, ◌&&◌, ◌||◌, List, [], ◌∷◌, ◌++◌, ℤ, Contains, AllPairs, arith, ap, refl, sym, ◌∙◌, subst, ⊎_elim}
 use Rattle.std.specs.List.{list_any}
 use Rattle.std.proofs.lemmas.Bool.{both_ways, cases_Bool, and_parts, or_cases, not-true}
-use Rattle.std.proofs.lemmas.List.Elements.{Contains-append_cases}
+use Rattle.std.proofs.lemmas.List.Elements.{Contains-append_left, Contains-append_cases, Contains-push, Contains-get_or}
+use Rattle.std.proofs.lemmas.List.Folds.{list_any_at}
 use Rattle.mk_model.specs.Orders.{lead}
 use Rattle.mk_model.specs.Reductions.{Divides}
-use Rattle.mk_model.specs.Saturation.{has_divisor, is_redundant, needed, drop_redundant}
+use Rattle.mk_model.specs.Saturation.{has_divisor, is_redundant, needed, drop_redundant, NoneRedundant}
 use Rattle.mk_model.proofs.Lists.{Contains-none, Contains-cases, Contains-here, Contains-there}
 use Rattle.mk_model.proofs.Divisors.{Decides-divides, Divides-itself, Divides-transitive}
 
@@ -15,6 +16,19 @@ LeadDivides u v = Divides (lead u) (lead v)
 
 test_divides : (u v : List ℤ) → has_divisor v u ≡ true → LeadDivides u v
 test_divides u v e = (Decides-divides (lead u) (lead v)).0 e
+
+divides_test : (u v : List ℤ) → LeadDivides u v → has_divisor v u ≡ true
+divides_test u v d = (Decides-divides (lead u) (lead v)).1 d
+
+or_right : (a b : Bool) → b ≡ true → (a || b) ≡ true
+or_right true b e = refl
+or_right false b e = e
+
+AllPairs-cons : (R : List ℤ → List ℤ → Type 0) (x : List ℤ) (xs : List (List ℤ)) → ((y : List ℤ) → Contains xs y → R x y) → AllPairs R xs → AllPairs R (x ∷ xs)
+AllPairs-cons R x xs f a zero zero d l k = absurd (omega arith)
+AllPairs-cons R x xs f a zero (suc j) d l k = f _ (Contains-get_or xs j d (omega arith))
+AllPairs-cons R x xs f a (suc i) zero d l k = absurd (omega arith)
+AllPairs-cons R x xs f a (suc i) (suc j) d l k = a i j d (omega arith) (omega arith)
 
 test_fails : (u v : List ℤ) → has_divisor v u ≡ false → LeadDivides u v → ⊥
 test_fails u v e d = both_ways (has_divisor v u) e ((Decides-divides (lead u) (lead v)).1 d)
@@ -126,3 +140,52 @@ drop_redundant_covers moves v h =
     let k : Contains moves s.small = ⊎_elim (λ e. subst (Contains moves) (sym e) h) (λ k. k) s.member in
     let (u, j, d) = needed_covers [] moves s.small k (λ v h _. Contains-none v h) s.smallest in
     (u, j, Divides-transitive d s.divides)
+
+-- ---- none of the moves that are kept is redundant
+any_from : (test : List ℤ → Bool) (xs : List (List ℤ)) (x : List ℤ) → Contains xs x → test x ≡ true → list_any test xs ≡ true
+any_from test xs x (k, l, e) t = list_any_at test xs k x l (ap test e ∙ t)
+
+redundant_by_before : (before : List (List ℤ)) (m : List ℤ) (behind : List (List ℤ)) (v : List ℤ) → Contains before v → LeadDivides v m → is_redundant before m behind ≡ true
+redundant_by_before before m behind v h d = let e = any_from (has_divisor m) before v h (divides_test v m d) in rw e refl
+
+-- a lead that divides properly, or the two divide each other
+redundant_by_behind : (before : List (List ℤ)) (m : List ℤ) (behind : List (List ℤ)) (v : List ℤ) → Contains behind v → is_redundant before m behind ≡ false → LeadDivides v m → LeadDivides m v
+redundant_by_behind before m behind v h none d = cases (cases_Bool (has_divisor v m))
+  where
+    cases : (has_divisor v m ≡ true) ⊎ (has_divisor v m ≡ false) → LeadDivides m v
+    cases (inl e) = test_divides m v e
+    cases (inr e) =
+        let passes : (has_divisor m v && not (has_divisor v m)) ≡ true = rw (divides_test v m d, e) refl in
+        let some = any_from (λ u. has_divisor m u && not (has_divisor u m)) behind v h passes in
+        absurd (both_ways (is_redundant before m behind) none (or_right (list_any (has_divisor m) before) _ some))
+
+-- no lead of the moves before divides that of one that is kept
+needed_undivided : (before behind : List (List ℤ)) (v u : List ℤ) → Contains before v → Contains (needed before behind) u → LeadDivides v u → ⊥
+needed_undivided before [] v u h k d = Contains-none u k
+needed_undivided before (m ∷ behind) v u h k d = cases (cases_Bool (is_redundant before m behind)) (λ j. needed_undivided (before ++ m ∷ []) behind v u (Contains-append_left before (m ∷ []) v h) j d)
+  where
+    cases : (is_redundant before m behind ≡ true) ⊎ (is_redundant before m behind ≡ false) → (Contains (needed (before ++ m ∷ []) behind) u → ⊥) → ⊥
+    cases (inl e) rest = rest (subst (λ l. Contains l u) (needed-skip before m behind e) k)
+    cases (inr e) rest =
+        ⊎_elim (λ s. both_ways (is_redundant before m behind) e (redundant_by_before before m behind v h (subst (LeadDivides v) (sym s) d))) rest
+        (Contains-cases m (needed (before ++ m ∷ []) behind) u (subst (λ l. Contains l u) (needed-keep before m behind e) k))
+
+needed_apart : (before behind : List (List ℤ)) → NoneRedundant (needed before behind)
+needed_apart before [] = λ i j d l k. absurd (omega arith)
+needed_apart before (m ∷ behind) = cases (cases_Bool (is_redundant before m behind)) (needed_apart (before ++ m ∷ []) behind)
+  where
+    rest : List (List ℤ)
+    rest = needed (before ++ m ∷ []) behind
+
+    over : (u : List ℤ) → Contains rest u → LeadDivides m u → ⊥
+    over u k d = needed_undivided (before ++ m ∷ []) behind m u (Contains-push before m) k d
+
+    cases : (is_redundant before m behind ≡ true) ⊎ (is_redundant before m behind ≡ false) → NoneRedundant rest → NoneRedundant (needed before (m ∷ behind))
+    cases (inl e) a = subst NoneRedundant (sym (needed-skip before m behind e)) a
+    cases (inr e) a =
+        subst NoneRedundant (sym (needed-keep before m behind e))
+        (AllPairs-cons (λ u v. (LeadDivides u v → ⊥) × (LeadDivides v u → ⊥)) m rest
+        (λ u k. (over u k, λ d. over u k (redundant_by_behind before m behind u (needed_members (before ++ m ∷ []) behind u k) e d))) a)
+
+pub drop_redundant_apart : (moves : List (List ℤ)) → NoneRedundant (drop_redundant moves)
+drop_redundant_apart moves = needed_apart [] moves

@@ -15,4 +15,5 @@ pub mod Reducts
 pub mod NormalForms
 pub mod Dropping
 pub mod Connections
+pub mod RowConnections
 pub mod ReductionExamples

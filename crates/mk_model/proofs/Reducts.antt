@@ -1,6 +1,7 @@
 -- Reduction, and why a pair of moves is joined below the least common multiple of its leads.
-use Rattle.std.proofs.Common.{◌≡◌, ◌⊎◌, inl, inr, ℕ, zero, suc, ◌*◌, List, length, ℤ, pos, ◌≤ℤ◌, Contains, arith, ap, refl, sym, ◌∙◌, subst}
+use Rattle.std.proofs.Common.{◌≡◌, ◌⊎◌, inl, inr, ℕ, zero, suc, ◌*◌, List, ◌++◌, length, ℤ, pos, ◌≤ℤ◌, Contains, arith, ap, refl, sym, ◌∙◌, subst}
 use Rattle.std.proofs.lemmas.Int.{ints}
+use Rattle.std.proofs.lemmas.List.Elements.{Contains-append_left}
 use Rattle.mk_model.specs.Vectors.{entry, zeros, add, subtract, negate, scale, positive_part, negative_part, IsPoint}
 use Rattle.mk_model.specs.Walks.{Walk, Members}
 use Rattle.mk_model.specs.Orders.{lead}
@@ -8,7 +9,7 @@ use Rattle.mk_model.specs.Reductions.{lcm, Divides, Reaches, IsDescent, Meet, Is
 use Rattle.mk_model.specs.Reductions.Reaches.{here, go}
 use Rattle.mk_model.specs.Pairs.{AreOrientedMoves, IsPointBelow, JoinedBelow, AreDisjoint}
 use Rattle.mk_model.proofs.VectorAlgebra.{lengths, columns, same_vectors, positive_part_at, positive_part-negate, add_difference, add-zeros}
-use Rattle.mk_model.proofs.WalkLaws.{walk_append}
+use Rattle.mk_model.proofs.WalkLaws.{walk_append, walk_weaker}
 use Rattle.mk_model.proofs.Translation.{walk_turned}
 use Rattle.mk_model.proofs.Divisors.{lcm_at, lcm_divides, Divides-transitive, Divides-lcm_first, Divides-lcm_second, Divides-positive_part, Divides-negative_part}
 use Rattle.mk_model.proofs.Confluence.{reaches_append, descent_walk, member_columns, descent_point, reach_point, joined_under, lcm_point, lcm_descent_first, lcm_descent_second, point_below_from_descent, point_below_descent}
@@ -22,6 +23,24 @@ pub record StepDownTo (moves : List (List ℤ)) (n : ℕ) (a b r : List ℤ) : T
   pub difference : subtract first second ≡ r
   pub from_first : Reaches (IsDescent moves) a first
   pub from_second : Reaches (IsDescent moves) b second
+
+-- ---- by more moves, as those of a longer list
+pub reduction_weaker : {moves others : List (List ℤ)} → ((v : List ℤ) → Contains moves v → Contains others v) → (r s : List ℤ) → IsReduction moves r s → IsReduction others r s
+reduction_weaker f r s d = record { move = d.move; member = f d.move d.member; times = d.times; some = d.some; taken_off = d.taken_off }
+
+pub reduct_weaker : {moves others : List (List ℤ)} → ((v : List ℤ) → Contains moves v → Contains others v) → {r s : List ℤ} → Reduct moves r s → Reduct others r s
+reduct_weaker f here = here
+reduct_weaker f (go {x = x} {y = y} d rest) = go (reduction_weaker f x y d) (reduct_weaker f rest)
+
+pub joined_below_weaker : (n : ℕ) (p : List ℕ) (moves others : List (List ℤ)) (a b : List ℤ) → ((v : List ℤ) → Contains moves v → Contains others v) → JoinedBelow n p moves a b → JoinedBelow n p others a b
+joined_below_weaker n p moves others a b f walk = walk_weaker f (λ x h. h) walk
+
+-- what holds by a list holds by each list that begins with it
+pub Reduct-append : (moves more : List (List ℤ)) (r s : List ℤ) → Reduct moves r s → Reduct (moves ++ more) r s
+Reduct-append moves more r s d = reduct_weaker (Contains-append_left moves more) d
+
+pub JoinedBelow-append : (n : ℕ) (p : List ℕ) (moves more : List (List ℤ)) (a b : List ℤ) → JoinedBelow n p moves a b → JoinedBelow n p (moves ++ more) a b
+JoinedBelow-append n p moves more a b walk = joined_below_weaker n p moves (moves ++ more) a b (Contains-append_left moves more) walk
 
 module _ {n : ℕ} {rows : List (List ℤ)} {w : List ℤ} {p : List ℕ} {moves : List (List ℤ)} (o : AreOrientedMoves n rows w p moves) where
   -- steps down from both ends of a walk below a vector, to one vector

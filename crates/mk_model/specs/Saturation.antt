@@ -1,15 +1,19 @@
 -- Saturation, column by column, and the list without its redundant moves. (Sturmfels, chapter 12, and Hemmecke and
 -- Malkin: project and lift)
-use Rattle.std.specs.Prelude.{◌≡◌, ℕ, Bool, false, not, ◌&&◌, ◌||◌, ◌==◌, if◌then◌else◌, List, [], ◌∷◌, ◌++◌, ℤ, pos, int_le}
+use Rattle.std.specs.Prelude.{◌≡◌, ℕ, Bool, true, false, not, ◌&&◌, ◌||◌, ◌==◌, if◌then◌else◌, List, [], ◌∷◌, ◌++◌, ℤ, pos, AllPairs, int_le}
 use Rattle.std.specs.List.{list_all, list_any}
 use Rattle.mk_model.specs.Vectors.{entry, add, subtract, IsPoint}
 use Rattle.mk_model.specs.Lattices.{InLattice}
 use Rattle.mk_model.specs.Walks.{Joined, Members}
 use Rattle.mk_model.specs.Orders.{lead}
+use Rattle.mk_model.specs.Reductions.{Divides}
 
 -- the entries outside a set of columns are 0
 abbrev pub IsSupported : (ℕ → Bool) → List ℤ → Type 0
 IsSupported columns t = (c : ℕ) → columns c ≡ false → entry t c ≡ pos 0
+
+abbrev pub every_column : ℕ → Bool
+every_column c = true
 
 -- the set without one column
 abbrev pub without_column : (ℕ → Bool) → ℕ → ℕ → Bool
@@ -48,3 +52,7 @@ needed before (m ∷ behind) =
 -- the list without its redundant moves
 abbrev pub drop_redundant : List (List ℤ) → List (List ℤ)
 drop_redundant moves = needed [] moves
+
+-- no lead divides another: none of the moves is redundant
+abbrev pub NoneRedundant : List (List ℤ) → Type 0
+NoneRedundant moves = AllPairs (λ u v. (¬ (Divides (lead u) (lead v))) × (¬ (Divides (lead v) (lead u)))) moves

@@ -1,5 +1,4 @@
--- Saturation, column by column, and the list without its redundant moves. (Sturmfels, chapter 12, and Hemmecke and
--- Malkin: project and lift)
+-- Saturation, column by column, and the list without its redundant moves. (Sturmfels, chapter 12)
 use Rattle.std.specs.Prelude.{◌≡◌, ℕ, Bool, true, false, not, ◌&&◌, ◌||◌, ◌==◌, if◌then◌else◌, List, [], ◌∷◌, ◌++◌, ℤ, pos, AllPairs, int_le}
 use Rattle.std.specs.List.{list_all, list_any}
 use Rattle.mk_model.specs.Vectors.{entry, add, subtract, IsPoint}

@@ -17,3 +17,6 @@ pub mod Dropping
 pub mod Connections
 pub mod RowConnections
 pub mod ReductionExamples
+pub mod Fibres
+pub mod MoveRanks
+pub mod MarkovLaws

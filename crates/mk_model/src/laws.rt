@@ -1,17 +1,13 @@
 //! The laws of the definitions. Each is the contract of a function that takes nothing and gives nothing.
 
-ghost use Rattle.std.specs.Prelude.{◌≡◌, ◌⊎◌, ℕ, ℤ, List, [], ◌∷◌};
-ghost use Rattle.mk_model.specs.Vectors.{negate};
-ghost use Rattle.mk_model.specs.Lattices.{IsGrading, nonzero_rows};
-ghost use Rattle.mk_model.specs.Orders.{standard, IsOriented};
-ghost use Rattle.mk_model.specs.Bases.{IsTheAnswer};
-ghost use Rattle.std.specs.Prelude.{Bool, IsTrue, All, Contains, pos, neg_ℤ, ◌≤ℤ◌};
-ghost use Rattle.mk_model.specs.Vectors.{entry, zeros, add, subtract, negative_part, IsPoint};
+ghost use Rattle.std.specs.Prelude.{◌≡◌, ◌⊎◌, ℕ, ℤ, List, [], ◌∷◌, Bool, IsTrue, All, Contains, pos, neg_ℤ, ◌≤ℤ◌};
+ghost use Rattle.mk_model.specs.Vectors.{negate, entry, zeros, add, subtract, negative_part, IsPoint};
+ghost use Rattle.mk_model.specs.Lattices.{IsGrading, nonzero_rows, InLattice};
 ghost use Rattle.mk_model.specs.Walks.{Joined, Members};
-ghost use Rattle.mk_model.specs.Orders.{lead};
+ghost use Rattle.mk_model.specs.Orders.{standard, IsOriented, lead};
+ghost use Rattle.mk_model.specs.Bases.{IsTheAnswer, IsAnswer, IsMarkov};
 ghost use Rattle.mk_model.specs.Reductions.{lcm, Divides, Meet, Reduct};
 ghost use Rattle.mk_model.specs.Pairs.{AreOrientedMoves, JoinedBelow, EveryPairJoined, AreDisjoint};
-ghost use Rattle.mk_model.specs.Lattices.{InLattice};
 ghost use Rattle.mk_model.specs.Saturation.{IsSupported, without_column, ConnectedUpTo, drop_redundant};
 
 /// A lattice of zero rows has no move, and the answer has none.
@@ -94,4 +90,10 @@ pub fn reduction_examples()
         (pos 1 ∷ neg_ℤ (pos 3) ∷ pos 3 ∷ neg_ℤ (pos 1) ∷ []) (zeros 4) }
     ensures redundant { drop_redundant ((pos 2 ∷ neg_ℤ (pos 2) ∷ []) ∷ (pos 1 ∷ neg_ℤ (pos 1) ∷ []) ∷ (pos 1 ∷ neg_ℤ (pos 1) ∷ []) ∷ [])
         ≡ (pos 1 ∷ neg_ℤ (pos 1) ∷ []) ∷ [] }
+{}
+
+/// The moves of an answer join all nonnegative vectors that differ by the lattice.
+pub fn essential_is_markov()
+    ensures { (n : ℕ) (rows : List (List ℤ)) (w : List ℤ) (moves : List (List ℤ)) → IsGrading n rows w →
+        IsAnswer n rows w moves → IsMarkov n rows moves }
 {}

@@ -20,3 +20,4 @@ pub mod ReductionExamples
 pub mod Fibres
 pub mod MoveRanks
 pub mod MarkovLaws
+pub mod MinimalLaws

@@ -5,7 +5,7 @@ ghost use Rattle.mk_model.specs.Vectors.{negate, entry, zeros, add, subtract, ne
 ghost use Rattle.mk_model.specs.Lattices.{IsGrading, nonzero_rows, InLattice};
 ghost use Rattle.mk_model.specs.Walks.{Joined, Members};
 ghost use Rattle.mk_model.specs.Orders.{standard, IsOriented, lead};
-ghost use Rattle.mk_model.specs.Bases.{IsTheAnswer, IsAnswer, IsMarkov};
+ghost use Rattle.mk_model.specs.Bases.{IsTheAnswer, IsAnswer, IsMarkov, IsMinimal};
 ghost use Rattle.mk_model.specs.Reductions.{lcm, Divides, Meet, Reduct};
 ghost use Rattle.mk_model.specs.Pairs.{AreOrientedMoves, JoinedBelow, EveryPairJoined, AreDisjoint};
 ghost use Rattle.mk_model.specs.Saturation.{IsSupported, without_column, ConnectedUpTo, drop_redundant};
@@ -96,4 +96,10 @@ pub fn reduction_examples()
 pub fn essential_is_markov()
     ensures { (n : ℕ) (rows : List (List ℤ)) (w : List ℤ) (moves : List (List ℤ)) → IsGrading n rows w →
         IsAnswer n rows w moves → IsMarkov n rows moves }
+{}
+
+/// Each move of an answer is needed: without it two vectors that differ by the lattice stay apart.
+pub fn essential_is_minimal()
+    ensures { (n : ℕ) (rows : List (List ℤ)) (w : List ℤ) (moves : List (List ℤ)) → IsGrading n rows w →
+        IsAnswer n rows w moves → IsMinimal n rows moves }
 {}

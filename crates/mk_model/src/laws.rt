@@ -1,11 +1,11 @@
 //! The laws of the definitions. Each is the contract of a function that takes nothing and gives nothing.
 
-ghost use Rattle.std.specs.Prelude.{◌≡◌, ◌⊎◌, ℕ, ℤ, List, [], ◌∷◌, Bool, IsTrue, All, Contains, pos, neg_ℤ, ◌≤ℤ◌};
+ghost use Rattle.std.specs.Prelude.{◌≡◌, ◌⊎◌, ℕ, ℤ, List, [], ◌∷◌, Bool, IsTrue, All, Contains, pos, neg_ℤ, ◌≤ℤ◌, ◌↔◌};
 ghost use Rattle.mk_model.specs.Vectors.{negate, entry, zeros, add, subtract, negative_part, IsPoint};
 ghost use Rattle.mk_model.specs.Lattices.{IsGrading, nonzero_rows, InLattice};
 ghost use Rattle.mk_model.specs.Walks.{Joined, Members};
 ghost use Rattle.mk_model.specs.Orders.{standard, IsOriented, lead};
-ghost use Rattle.mk_model.specs.Bases.{IsTheAnswer, IsAnswer, IsMarkov, IsMinimal};
+ghost use Rattle.mk_model.specs.Bases.{IsTheAnswer, IsAnswer, IsEssential, IsMarkov, IsMinimal};
 ghost use Rattle.mk_model.specs.Reductions.{lcm, Divides, Meet, Reduct};
 ghost use Rattle.mk_model.specs.Pairs.{AreOrientedMoves, JoinedBelow, EveryPairJoined, AreDisjoint};
 ghost use Rattle.mk_model.specs.Saturation.{IsSupported, without_column, ConnectedUpTo, drop_redundant};
@@ -102,4 +102,16 @@ pub fn essential_is_markov()
 pub fn essential_is_minimal()
     ensures { (n : ℕ) (rows : List (List ℤ)) (w : List ℤ) (moves : List (List ℤ)) → IsGrading n rows w →
         IsAnswer n rows w moves → IsMinimal n rows moves }
+{}
+
+/// A lattice and a grading have one answer.
+pub fn answer_is_unique()
+    ensures { (n : ℕ) (rows : List (List ℤ)) (w : List ℤ) (moves others : List (List ℤ)) →
+        IsAnswer n rows w moves → IsAnswer n rows w others → moves ≡ others }
+{}
+
+/// The members of an answer are the essential moves.
+pub fn answer_has_the_essential_moves()
+    ensures { (n : ℕ) (rows : List (List ℤ)) (w : List ℤ) (moves : List (List ℤ)) (m : List ℤ) →
+        IsAnswer n rows w moves → Contains moves m ↔ IsEssential n rows w m }
 {}

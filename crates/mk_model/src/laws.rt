@@ -1,10 +1,10 @@
 //! The laws of the definitions. Each is the contract of a function that takes nothing and gives nothing.
 
-ghost use Rattle.std.specs.Prelude.{◌≡◌, ◌⊎◌, ℕ, ℤ, List, [], ◌∷◌, Bool, IsTrue, All, Contains, pos, neg_ℤ, ◌≤ℤ◌, ◌↔◌};
+ghost use Rattle.std.specs.Prelude.{◌≡◌, ◌⊎◌, ℕ, ℤ, List, [], ◌∷◌, Bool, IsTrue, All, Contains, pos, neg_ℤ, ◌≤ℤ◌, ◌↔◌, negsuc};
 ghost use Rattle.mk_model.specs.Vectors.{negate, entry, zeros, add, subtract, negative_part, IsPoint};
-ghost use Rattle.mk_model.specs.Lattices.{IsGrading, nonzero_rows, InLattice};
+ghost use Rattle.mk_model.specs.Lattices.{IsGrading, nonzero_rows, InLattice, ones};
 ghost use Rattle.mk_model.specs.Walks.{Joined, Members};
-ghost use Rattle.mk_model.specs.Orders.{standard, IsOriented, lead};
+ghost use Rattle.mk_model.specs.Orders.{standard, IsOriented, lead, IsBelow, ComesBefore};
 ghost use Rattle.mk_model.specs.Bases.{IsTheAnswer, IsAnswer, IsEssential, IsMarkov, IsMinimal};
 ghost use Rattle.mk_model.specs.Reductions.{lcm, Divides, Meet, Reduct};
 ghost use Rattle.mk_model.specs.Pairs.{AreOrientedMoves, JoinedBelow, EveryPairJoined, AreDisjoint};
@@ -114,4 +114,16 @@ pub fn answer_is_unique()
 pub fn answer_has_the_essential_moves()
     ensures { (n : ℕ) (rows : List (List ℤ)) (w : List ℤ) (moves : List (List ℤ)) (m : List ℤ) →
         IsAnswer n rows w moves → Contains moves m ↔ IsEssential n rows w m }
+{}
+
+/// Vectors and moves in their order, from outside: of 3 columns, and of 3 by 3 independence.
+pub fn order_examples()
+    ensures points { IsBelow (standard 3) (pos 0 ∷ pos 0 ∷ pos 2 ∷ []) (pos 1 ∷ pos 1 ∷ pos 0 ∷ []) }
+    ensures of_three_columns { ComesBefore 3 (ones 3) (pos 0 ∷ pos 1 ∷ negsuc 0 ∷ []) (pos 1 ∷ pos 0 ∷ negsuc 0 ∷ []) }
+    ensures independence_first { ComesBefore 9 (ones 9)
+        (pos 0 ∷ pos 0 ∷ pos 0 ∷ pos 0 ∷ negsuc 0 ∷ pos 1 ∷ pos 0 ∷ pos 1 ∷ negsuc 0 ∷ [])
+        (pos 0 ∷ negsuc 0 ∷ pos 1 ∷ pos 0 ∷ pos 0 ∷ pos 0 ∷ pos 0 ∷ pos 1 ∷ negsuc 0 ∷ []) }
+    ensures independence_second { ComesBefore 9 (ones 9)
+        (pos 0 ∷ negsuc 0 ∷ pos 1 ∷ pos 0 ∷ pos 0 ∷ pos 0 ∷ pos 0 ∷ pos 1 ∷ negsuc 0 ∷ [])
+        (pos 0 ∷ pos 0 ∷ pos 0 ∷ negsuc 0 ∷ pos 0 ∷ pos 1 ∷ pos 1 ∷ pos 0 ∷ negsuc 0 ∷ []) }
 {}

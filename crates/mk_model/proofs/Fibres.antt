@@ -1,15 +1,17 @@
 -- Points of one fibre: what they share, walks with a point added, and the moves that lead from one to the other.
-use Rattle.std.proofs.Common.{◌≡◌, ◌⊎◌, inl, inr, ℕ, ◌≤◌, min, List, length, ℤ, pos, negsuc, ◌≤ℤ◌, ◌<ℤ◌, arith, ap, sym, ◌∙◌, ⊎_elim}
+use Rattle.std.proofs.Common.{◌≡◌, ◌⊎◌, inl, inr, ℕ, ◌≤◌, min, List, [], ◌∷◌, length, ℤ, pos, negsuc, ◌≤ℤ◌, ◌<ℤ◌, arith, ap, sym, ◌∙◌, subst, ⊎_elim}
 use Rattle.std.proofs.lemmas.Int.{ints, by_lt_z}
 use borrow.Author.Differences.{up, down}
 use Rattle.mk_model.specs.Vectors.{entry, zeros, add, subtract, positive_part, negative_part, weight, IsPoint}
 use Rattle.mk_model.specs.Lattices.{InLattice, IsGrading}
-use Rattle.mk_model.specs.Orders.{lead, tail}
+use Rattle.mk_model.specs.Orders.{IsBelow, IsOriented, standard, lead, tail}
 use Rattle.mk_model.specs.Walks.{IsStep, Joined}
 use Rattle.mk_model.specs.Walks.Walk.{stay, step}
-use Rattle.mk_model.proofs.VectorAlgebra.{lengths, columns, same_vectors, weight-subtract, weight-add, only_zeros, IsPoint-add, add-zeros}
-use Rattle.mk_model.proofs.WalkLaws.{walk_append, walk_back, walk_from}
-use Rattle.mk_model.proofs.LatticeLaws.{InLattice-columns, InLattice-weight}
+use Rattle.mk_model.specs.Bases.{IsMove}
+use Rattle.mk_model.proofs.VectorAlgebra.{lengths, columns, same_vectors, weight-subtract, negate-subtract, weight-add, only_zeros, IsPoint-add, add-zeros}
+use Rattle.mk_model.proofs.OrderLaws.{IsBelow-total_standard}
+use Rattle.mk_model.proofs.WalkLaws.{walk_append, walk_back, one_step, walk_from, walk_to}
+use Rattle.mk_model.proofs.LatticeLaws.{InLattice-zeros, InLattice-add, InLattice-negate, InLattice-columns, InLattice-weight}
 use Rattle.mk_model.proofs.MoveRanks.{nonnegative_down, entry_within, weight_down}
 
 pub parts_apart : (z : ℤ) → min (up z) (down z) ≡ 0
@@ -79,6 +81,12 @@ step_by_parts {moves} {n} {x} {y} m l p q (inr e) j =
     let d : subtract x y ≡ m = ap (subtract x) e ∙ less_less x m (omega (arith, p.columns)) in
     joined_by_parts p q (rw d j)
 
+-- the difference of two vectors is oriented if the second is below the first
+pub IsOriented-difference : (p : List ℕ) (x y : List ℤ) → IsBelow p y x → IsOriented p (subtract x y)
+IsOriented-difference [] x y h = h
+IsOriented-difference (c ∷ p) x y (inl h) = inl (omega (arith, ints, columns))
+IsOriented-difference (c ∷ p) x y (inr (e, h)) = inr (omega (arith, ints, columns), IsOriented-difference p x y h)
+
 -- x and y are the ends of the move, in either order
 abbrev pub AreEnds : List ℤ → List ℤ → List ℤ → Type 0
 AreEnds m x y = ((x ≡ lead m) × (y ≡ tail m)) ⊎ ((x ≡ tail m) × (y ≡ lead m))
@@ -123,3 +131,44 @@ module _ {n : ℕ} {rows : List (List ℤ)} {w : List ℤ} (g : IsGrading n rows
   ends_of_step x y v p q h (inr e) =
       let d : subtract x y ≡ v = ap (subtract x) e ∙ less_less x v (omega (arith, p.columns, InLattice-columns n rows v g.rows_columns h)) in
       ⊎_elim inl (λ (a, b). inr (inl (a, b))) (rw d at (lead_of_difference x y p q))
+
+  -- ---- the fibre of a point
+  pub same_fibre_back : (x y : List ℤ) → InLattice n rows (subtract x y) → InLattice n rows (subtract y x)
+  same_fibre_back x y h = subst (InLattice n rows) (negate-subtract x y) (InLattice-negate n rows (subtract x y) h)
+
+  pub same_fibre_append : (x y z : List ℤ) → IsPoint n x → IsPoint n y → IsPoint n z → InLattice n rows (subtract x y) → InLattice n rows (subtract y z) → InLattice n rows (subtract x z)
+  same_fibre_append x y z p q r h k =
+      let e : add (subtract x y) (subtract y z) ≡ subtract x z = same_vectors _ _ (omega (arith, lengths, p.columns, q.columns, r.columns)) (λ c. omega (arith, ints, columns)) in
+      subst (InLattice n rows) e (InLattice-add n rows (subtract x y) (subtract y z) h k)
+
+  pub same_fibre_weight : (x y : List ℤ) → IsPoint n x → IsPoint n y → InLattice n rows (subtract x y) → weight w x ≡ weight w y
+  same_fibre_weight x y p q h = omega (arith, ints, weight-subtract w x y (omega (arith, p.columns, q.columns)), InLattice-weight w n rows (subtract x y) g.rows_weight h)
+
+  -- the greater of two points of a fibre less the other is a move
+  pub move_of_difference : (x y : List ℤ) → InLattice n rows (subtract x y) → IsBelow (standard n) y x → IsMove n rows (subtract x y)
+  move_of_difference x y h b = record { in_lattice = h; oriented = IsOriented-difference (standard n) x y b }
+
+  -- and it leads from the one to the other
+  pub difference_step : {moves : List ℤ → Type 0} (x y : List ℤ) → IsPoint n x → IsPoint n y → moves (subtract x y) → Joined n moves x y
+  difference_step x y p q a = one_step p q (subtract x y, a, inr (sym (less_less x y (omega (arith, p.columns, q.columns)))))
+
+  pub total_points : (x y : List ℤ) → IsPoint n x → IsPoint n y → (IsBelow (standard n) x y ⊎ IsBelow (standard n) y x) ⊎ (x ≡ y)
+  total_points x y p q = IsBelow-total_standard n x y p.columns q.columns
+
+  pub same_fibre_stay : (x : List ℤ) → IsPoint n x → InLattice n rows (subtract x x)
+  same_fibre_stay x p =
+      let e : zeros n ≡ subtract x x = same_vectors _ _ (omega (arith, lengths, p.columns)) (λ c. omega (arith, ints, columns)) in
+      subst (InLattice n rows) e (InLattice-zeros n rows g.rows_columns)
+
+  pub same_fibre_step : {moves : List ℤ → Type 0} → ((v : List ℤ) → moves v → InLattice n rows v) → (x y : List ℤ) → IsPoint n x → IsStep moves x y → InLattice n rows (subtract x y)
+  same_fibre_step inside x y p (v, a, inl e) =
+      let d : subtract y x ≡ v = ap (λ u. subtract u x) e ∙ plus_less x v (omega (arith, p.columns, InLattice-columns n rows v g.rows_columns (inside v a))) in
+      same_fibre_back y x (subst (InLattice n rows) (sym d) (inside v a))
+  same_fibre_step inside x y p (v, a, inr e) =
+      let d : subtract x y ≡ v = ap (subtract x) e ∙ less_less x v (omega (arith, p.columns, InLattice-columns n rows v g.rows_columns (inside v a))) in
+      subst (InLattice n rows) (sym d) (inside v a)
+
+  pub same_fibre_of_walk : {moves : List ℤ → Type 0} → ((v : List ℤ) → moves v → InLattice n rows v) → {x y : List ℤ} → Joined n moves x y → InLattice n rows (subtract x y)
+  same_fibre_of_walk {moves} inside (stay {x = x} p) = same_fibre_stay x p
+  same_fibre_of_walk {moves} inside (step {x = x} {y = y} {z = z} p s r) =
+      same_fibre_append x y z p (walk_from r) (walk_to r) (same_fibre_step {moves = moves} inside x y p s) (same_fibre_of_walk {moves = moves} inside r)

@@ -21,3 +21,8 @@ pub mod Fibres
 pub mod MoveRanks
 pub mod MarkovLaws
 pub mod MinimalLaws
+pub mod StarLaws
+pub mod DivisorWeights
+pub mod ReducedLaws
+pub mod MoveOrder
+pub mod TheAnswer

@@ -8,3 +8,4 @@ pub mod Texts
 pub mod Reductions
 pub mod Pairs
 pub mod Saturation
+pub mod ReducedBases

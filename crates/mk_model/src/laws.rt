@@ -9,6 +9,7 @@ ghost use Rattle.mk_model.specs.Bases.{IsTheAnswer, IsAnswer, IsEssential, IsMar
 ghost use Rattle.mk_model.specs.Reductions.{lcm, Divides, Meet, Reduct};
 ghost use Rattle.mk_model.specs.Pairs.{AreOrientedMoves, JoinedBelow, EveryPairJoined, AreDisjoint};
 ghost use Rattle.mk_model.specs.Saturation.{IsSupported, without_column, ConnectedUpTo, drop_redundant};
+ghost use Rattle.mk_model.specs.ReducedBases.{IsLeast, IsReducedBasis, IsStarMove};
 
 /// A lattice of zero rows has no move, and the answer has none.
 pub fn answer_without_rows()
@@ -126,4 +127,35 @@ pub fn order_examples()
     ensures independence_second { ComesBefore 9 (ones 9)
         (pos 0 ∷ negsuc 0 ∷ pos 1 ∷ pos 0 ∷ pos 0 ∷ pos 0 ∷ pos 0 ∷ pos 1 ∷ negsuc 0 ∷ [])
         (pos 0 ∷ pos 0 ∷ pos 0 ∷ negsuc 0 ∷ pos 0 ∷ pos 1 ∷ pos 1 ∷ pos 0 ∷ negsuc 0 ∷ []) }
+{}
+
+/// A lattice and a grading have one reduced basis.
+pub fn reduced_basis_is_unique()
+    ensures { (n : ℕ) (rows : List (List ℤ)) (w : List ℤ) (moves others : List (List ℤ)) →
+        IsReducedBasis n rows w moves → IsReducedBasis n rows w others → moves ≡ others }
+{}
+
+/// Each nonnegative vector is the least of its fibre, or the lead of a move of the reduced basis divides it.
+pub fn reduced_basis_divides()
+    ensures { (n : ℕ) (rows : List (List ℤ)) (w : List ℤ) (moves : List (List ℤ)) → IsGrading n rows w →
+        IsReducedBasis n rows w moves → (x : List ℤ) → IsPoint n x →
+        IsLeast n rows x ⊎ ((m : List ℤ) × Contains moves m × Divides (lead m) x) }
+{}
+
+/// The moves of the reduced basis join all nonnegative vectors that differ by the lattice.
+pub fn reduced_basis_is_markov()
+    ensures { (n : ℕ) (rows : List (List ℤ)) (w : List ℤ) (moves : List (List ℤ)) → IsGrading n rows w →
+        IsReducedBasis n rows w moves → IsMarkov n rows moves }
+{}
+
+/// The essential moves stand in the reduced basis.
+pub fn reduced_basis_has_the_essential_moves()
+    ensures { (n : ℕ) (rows : List (List ℤ)) (w : List ℤ) (moves : List (List ℤ)) (m : List ℤ) → IsGrading n rows w →
+        IsReducedBasis n rows w moves → IsEssential n rows w m → Contains moves m }
+{}
+
+/// The essential moves are the least vectors of the components of a fibre, each less the least vector of the fibre.
+pub fn essential_moves_are_stars()
+    ensures { (n : ℕ) (rows : List (List ℤ)) (w m : List ℤ) → IsGrading n rows w →
+        IsEssential n rows w m ↔ IsStarMove n rows w m }
 {}

@@ -1,0 +1,5 @@
+use Rattle.mk_model.proofs.ReducedLaws.{least_or_divided}
+use Rattle.mk_model.proofs.laws.reduced_basis_divides.Goals as goal
+
+pub returns : goal.returns
+returns c = λ n rows w moves g a. least_or_divided g a

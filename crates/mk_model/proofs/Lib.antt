@@ -26,3 +26,4 @@ pub mod DivisorWeights
 pub mod ReducedLaws
 pub mod MoveOrder
 pub mod TheAnswer
+pub mod Components

@@ -82,10 +82,10 @@ module _ {n : ℕ} {rows : List (List ℤ)} {w : List ℤ} (g : IsGrading n rows
           }) h
 
   module _ {moves : List (List ℤ)} (basis : IsReducedBasis n rows w moves) where
-    member_reduced : (m : List ℤ) → Contains moves m → IsReducedMove n rows m
+    pub member_reduced : (m : List ℤ) → Contains moves m → IsReducedMove n rows m
     member_reduced m c = All-contains (IsReducedMove n rows) moves m basis.each c
 
-    member_move : (m : List ℤ) → Contains moves m → IsMove n rows m
+    pub member_move : (m : List ℤ) → Contains moves m → IsMove n rows m
     member_move m c = reduced_move (member_reduced m c)
 
     abbrev NoneDivides : List ℤ → Type 0
@@ -142,10 +142,10 @@ module _ {n : ℕ} {rows : List (List ℤ)} {w : List ℤ} (g : IsGrading n rows
                 let (z, l, j) = lower (subtract x m) (rank_of_points g (subtract x m) x q p e (IsBelow-subtract (standard n) x m move.oriented)) q in
                 (z, l, step p (m, c, inr refl) j)
 
-    members_inside : (m : List ℤ) → Contains moves m → InLattice n rows m
+    pub members_inside : (m : List ℤ) → Contains moves m → InLattice n rows m
     members_inside m c = (member_move m c).in_lattice
 
-    reduced_joins : (x y : List ℤ) → IsPoint n x → IsPoint n y → InLattice n rows (subtract x y) → Joined n (Members moves) x y
+    pub reduced_joins : (x y : List ℤ) → IsPoint n x → IsPoint n y → InLattice n rows (subtract x y) → Joined n (Members moves) x y
     reduced_joins x y p q h =
         let (z, l, j) = to_least x p in
         let (u, k, i) = to_least y q in

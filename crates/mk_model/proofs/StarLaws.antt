@@ -24,7 +24,7 @@ module _ {n : ℕ} {rows : List (List ℤ)} {w : List ℤ} (g : IsGrading n rows
     step_down x y p q h e b d =
         difference_step g x y p q (
           move_of_difference g x y h d,
-          ⊎_elim (λ l. inl (omega (arith, ints, l, ap (λ z. z) e))) (λ (a, c). inr (ap (weight w) (sym a) ∙ e, inl (subst (λ u. IsBelow (standard n) u (lead m)) a b)))
+          ⊎_elim (λ l. inl (omega (arith, ints, l))) (λ (a, c). inr (ap (weight w) (sym a) ∙ e, inl (subst (λ u. IsBelow (standard n) u (lead m)) a b)))
               (lead_of_difference g x y p q),
         )
 
@@ -48,12 +48,23 @@ module _ {n : ℕ} {rows : List (List ℤ)} {w : List ℤ} (g : IsGrading n rows
               (lead_of_difference g (lead m) x (IsMove-lead g move) p),
         )
 
+    -- the component of the lead lies in its fibre
+    pub fibre_of_lead : (x : List ℤ) → Joined n (LighterMoves n rows w (weight w (lead m))) (lead m) x → InLattice n rows (subtract x (tail m))
+    fibre_of_lead x j =
+        let inside : InLattice n rows (subtract (lead m) x) = same_fibre_of_walk g (λ v (a, l). a.in_lattice) j in
+        same_fibre_append g x (lead m) (tail m) (walk_to j) (IsMove-lead g move) (IsMove-tail g move) (same_fibre_back g (lead m) x inside) (IsMove-ends g move)
+
     -- a walk from the lead to a point of the fibre below the lead goes on to the tail
     pub to_tail : (x : List ℤ) → InLattice n rows (subtract x (tail m)) → IsBelow (standard n) x (lead m) → Joined n (MovesBefore n rows w m) (lead m) x →
         Joined n (MovesBefore n rows w m) (lead m) (tail m)
     to_tail x h b j =
         let q = IsMove-tail g move in
         walk_append j (joined_under_lead x (tail m) (walk_to j) q h (same_fibre_weight g x (tail m) (walk_to j) q h ∙ sym (IsMove-same_weight g move)) b move.oriented)
+
+    -- so does a walk by lighter moves to a point below the lead
+    pub joined_from_lighter : (x : List ℤ) → Joined n (LighterMoves n rows w (weight w (lead m))) (lead m) x → IsBelow (standard n) x (lead m) →
+        Joined n (MovesBefore n rows w m) (lead m) (tail m)
+    joined_from_lighter x j b = to_tail x (fibre_of_lead x j) b (walk_weaker (λ v (a, l). (a, inl l)) (λ u p. p) j)
 
   -- A divisor of the lead that isn't the least of its fibre can step down, and the lead with it, by a lighter move.
   module _ {m : List ℤ} (move : IsMove n rows m) (y : List ℤ) (p : IsPoint n y) (d : Divides y (lead m)) where
@@ -107,17 +118,9 @@ module _ {n : ℕ} {rows : List (List ℤ)} {w : List ℤ} (g : IsGrading n rows
 
     pub essential_lead_least : IsLeastOfComponent n rows w (lead m)
     essential_lead_least = record {
-      point = IsMove-lead g move;
-      none_below = λ x j b. essential.not_joined (to_tail move x (fibre x j) b (walk_weaker (λ v (a, l). (a, inl l)) (λ u p. p) j));
+      point = IsMove-lead g essential.move;
+      none_below = λ x j b. essential.not_joined (joined_from_lighter essential.move x j b);
     }
-      where
-        move : IsMove n rows m
-        move = essential.move
-
-        fibre : (x : List ℤ) → Joined n (LighterMoves n rows w (weight w (lead m))) (lead m) x → InLattice n rows (subtract x (tail m))
-        fibre x j =
-            let inside : InLattice n rows (subtract (lead m) x) = same_fibre_of_walk g (λ v (a, l). a.in_lattice) j in
-            same_fibre_append g x (lead m) (tail m) (walk_to j) (IsMove-lead g move) (IsMove-tail g move) (same_fibre_back g (lead m) x inside) (IsMove-ends g move)
 
     pub essential_divisors : (y : List ℤ) → IsPoint n y → Divides y (lead m) → ¬ (y ≡ lead m) → IsLeast n rows y
     essential_divisors y p d apart = record {
@@ -159,16 +162,11 @@ module _ {n : ℕ} {rows : List (List ℤ)} {w : List ℤ} (g : IsGrading n rows
     abbrev Lighter : List ℤ → Type 0
     Lighter = LighterMoves n rows w (weight w (lead m))
 
-    fibre_of_lead : (x : List ℤ) → Joined n Lighter (lead m) x → InLattice n rows (subtract x (tail m))
-    fibre_of_lead x j =
-        let inside : InLattice n rows (subtract (lead m) x) = same_fibre_of_walk g (λ v (a, l). a.in_lattice) j in
-        same_fibre_append g x (lead m) (tail m) (walk_to j) (IsMove-lead g move) (IsMove-tail g move) (same_fibre_back g (lead m) x inside) (IsMove-ends g move)
-
     -- a step by a move before it, from a vertex of the component, is by a lighter move
     step_is_lighter : (x y v : List ℤ) → Joined n Lighter (lead m) x → IsPoint n y → IsMove n rows v → ComesBefore n w v m → (y ≡ add x v) ⊎ (y ≡ subtract x v) → weight w (lead v) <ℤ weight w (lead m)
     step_is_lighter x y v j q a (inl l) s = l
     step_is_lighter x y v j q a (inr (e, k)) s =
-        ⊎_elim (λ l. omega (arith, ints, l, same_fibre_weight g x (tail m) (walk_to j) (IsMove-tail g move) (fibre_of_lead x j), IsMove-same_weight g move))
+        ⊎_elim (λ l. omega (arith, ints, l, same_fibre_weight g x (tail m) (walk_to j) (IsMove-tail g move) (fibre_of_lead move x j), IsMove-same_weight g move))
         (λ ends. absurd (refuse ends k)) (ends_of_step g x y v (walk_to j) q a.in_lattice s)
       where
         lead_high : IsBelow (standard n) (lead v) (lead m) → (u : List ℤ) → (u ≡ lead v) ⊎ (u ≡ tail v) → IsBelow (standard n) u (lead m)
@@ -178,7 +176,7 @@ module _ {n : ℕ} {rows : List (List ℤ)} {w : List ℤ} (g : IsGrading n rows
         y_fibre : InLattice n rows (subtract y (tail m))
         y_fibre =
             same_fibre_append g y x (tail m) q (walk_to j) (IsMove-tail g move)
-            (same_fibre_back g x y (same_fibre_step g {moves = λ u. u ≡ v} (λ u e. subst (InLattice n rows) (sym e) a.in_lattice) x y (walk_to j) (v, refl, s))) (fibre_of_lead x j)
+            (same_fibre_back g x y (same_fibre_step g {moves = λ u. u ≡ v} (λ u e. subst (InLattice n rows) (sym e) a.in_lattice) x y (walk_to j) (v, refl, s))) (fibre_of_lead move x j)
 
         x_end : AreEnds v x y → (x ≡ lead v) ⊎ (x ≡ tail v)
         x_end (inl (d, f)) = inl d
@@ -187,7 +185,7 @@ module _ {n : ℕ} {rows : List (List ℤ)} {w : List ℤ} (g : IsGrading n rows
         refuse : AreEnds v x y → IsBelow (standard n) (lead v) (lead m) ⊎ ((lead v ≡ lead m) × IsBelow (standard n) (tail v) (tail m)) → ⊥
         refuse ends (inl b) = first.none_below x j (lead_high b x (x_end ends))
         refuse (inl (d, f)) (inr (i, b)) = last.none_below y q y_fibre (subst (λ u. IsBelow (standard n) u (tail m)) (sym f) b)
-        refuse (inr (d, f)) (inr (i, b)) = last.none_below x (walk_to j) (fibre_of_lead x j) (subst (λ u. IsBelow (standard n) u (tail m)) (sym d) b)
+        refuse (inr (d, f)) (inr (i, b)) = last.none_below x (walk_to j) (fibre_of_lead move x j) (subst (λ u. IsBelow (standard n) u (tail m)) (sym d) b)
 
     stays_lighter : (x y : List ℤ) → Joined n Lighter (lead m) x → Joined n (MovesBefore n rows w m) x y → Joined n Lighter (lead m) y
     stays_lighter x y j (stay p) = j

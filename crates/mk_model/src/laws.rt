@@ -105,7 +105,7 @@ pub fn essential_is_minimal()
         IsAnswer n rows w moves → IsMinimal n rows moves }
 {}
 
-/// A lattice and a grading have one answer.
+/// A lattice and a grading have at most one answer.
 pub fn answer_is_unique()
     ensures { (n : ℕ) (rows : List (List ℤ)) (w : List ℤ) (moves others : List (List ℤ)) →
         IsAnswer n rows w moves → IsAnswer n rows w others → moves ≡ others }
@@ -129,7 +129,7 @@ pub fn order_examples()
         (pos 0 ∷ pos 0 ∷ pos 0 ∷ negsuc 0 ∷ pos 0 ∷ pos 1 ∷ pos 1 ∷ pos 0 ∷ negsuc 0 ∷ []) }
 {}
 
-/// A lattice and a grading have one reduced basis.
+/// A lattice and a grading have at most one reduced basis.
 pub fn reduced_basis_is_unique()
     ensures { (n : ℕ) (rows : List (List ℤ)) (w : List ℤ) (moves others : List (List ℤ)) →
         IsReducedBasis n rows w moves → IsReducedBasis n rows w others → moves ≡ others }

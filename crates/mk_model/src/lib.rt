@@ -6,7 +6,13 @@
 
 mod laws;
 
-pub use laws::{answer_has_the_essential_moves, answer_is_unique, answer_of_one_row, answer_without_rows, confluence_from_pairs, conn_drop, conn_free, essential_is_markov, essential_is_minimal, essential_moves_are_stars, join_chain, join_translate, order_examples, reduced_basis_divides, reduced_basis_has_the_essential_moves, reduced_basis_is_markov, reduced_basis_is_unique, reduction_examples};
+pub use laws::{
+    answer_has_the_essential_moves, answer_is_unique, answer_of_one_row, answer_without_rows,
+    confluence_from_pairs, conn_drop, conn_free, essential_is_markov, essential_is_minimal,
+    essential_moves_are_stars, join_chain, join_translate, order_examples, reduced_basis_divides,
+    reduced_basis_has_the_essential_moves, reduced_basis_is_markov, reduced_basis_is_unique,
+    reduction_examples,
+};
 use std::alloc::{AllocError, AllocFailed};
 
 /// An entry of a lattice or of a move: from `-ENTRY_MAX` to `ENTRY_MAX`.

@@ -1,0 +1,64 @@
+-- Components of fibres and the reduced basis: which of its moves are essential.
+use Rattle.std.proofs.Common.{◌⊎◌, inl, inr, ℕ, List, ℤ, ◌<ℤ◌, All, AllPairs, Contains, arith, ap, subst, ⊎_elim}
+use Rattle.std.proofs.lemmas.Int.{ints}
+use Rattle.std.proofs.lemmas.List.Elements.{All-weaker}
+use Rattle.mk_model.specs.Vectors.{weight}
+use Rattle.mk_model.specs.Lattices.{IsGrading}
+use Rattle.mk_model.specs.Orders.{IsBelow, standard, lead, tail, ComesBefore}
+use Rattle.mk_model.specs.Walks.{Joined, Members}
+use Rattle.mk_model.specs.Walks.Walk.{stay, step}
+use Rattle.mk_model.specs.Bases.{IsMove, IsEssential, IsAnswer}
+use Rattle.mk_model.specs.ReducedBases.{IsLeast, IsReducedBasis, LighterMoves, IsLeastOfComponent}
+use Rattle.mk_model.proofs.WalkLaws.{walk_from, walk_weaker}
+use Rattle.mk_model.proofs.MoveLaws.{IsMove-columns, IsMove-lead, IsMove-tail, IsMove-ends, IsMove-same_weight}
+use Rattle.mk_model.proofs.Fibres.{AreEnds, ends_of_step, step_weight, walk_replace, step_by_parts}
+use Rattle.mk_model.proofs.StarLaws.{essential_from_ends, joined_from_lighter}
+use Rattle.mk_model.proofs.ReducedLaws.{reduced_ends, member_reduced, member_move, reduced_joins, answer_from_reduced}
+
+-- the members of a list whose lead is lighter
+abbrev pub LighterMembers : List ℤ → List (List ℤ) → ℤ → List ℤ → Type 0
+LighterMembers w moves bound m = Contains moves m × (weight w (lead m) <ℤ bound)
+
+module _ {n : ℕ} {rows : List (List ℤ)} {w : List ℤ} (g : IsGrading n rows w) where
+  -- a walk through points lighter than a bound is by moves that are
+  pub walk_is_lighter : (moves : List (List ℤ)) → ((m : List ℤ) → Contains moves m → IsMove n rows m) → (bound : ℤ) (x y : List ℤ) → weight w x <ℤ bound →
+      Joined n (Members moves) x y → Joined n (LighterMembers w moves bound) x y
+  walk_is_lighter moves f bound x y l (stay p) = stay p
+  walk_is_lighter moves f bound x y l (step {y = z} p (m, c, s) r) =
+      step p (m, (c, light (ends_of_step g x z m p (walk_from r) move.in_lattice s)), s)
+      (walk_is_lighter moves f bound z y (omega (arith, ints, l, step_weight g x z m p move.in_lattice s)) r)
+    where
+      move : IsMove n rows m
+      move = f m c
+
+      light : (weight w (lead m) <ℤ weight w x) ⊎ AreEnds m x z → weight w (lead m) <ℤ bound
+      light (inl k) = omega (arith, ints, k, l)
+      light (inr (inl (e, d))) = omega (arith, ints, l, ap (weight w) e)
+      light (inr (inr (e, d))) = omega (arith, ints, l, ap (weight w) e, IsMove-same_weight g move)
+
+  module _ {moves : List (List ℤ)} (basis : IsReducedBasis n rows w moves) where
+    -- what lighter moves of the lattice join, lighter members of the reduced basis join
+    pub lighter_by_members : (bound : ℤ) {x y : List ℤ} → Joined n (LighterMoves n rows w bound) x y → Joined n (LighterMembers w moves bound) x y
+    lighter_by_members bound j =
+        walk_replace {moves = LighterMoves n rows w bound} {others = LighterMembers w moves bound}
+        (λ x y p q (v, (a, l), s). step_by_parts v (IsMove-columns g a) p q s
+        (walk_is_lighter moves (member_move g basis) bound (lead v) (tail v) l (reduced_joins g basis (lead v) (tail v) (IsMove-lead g a) (IsMove-tail g a) (IsMove-ends g a)))) j
+
+    pub members_are_lighter : (bound : ℤ) {x y : List ℤ} → Joined n (LighterMembers w moves bound) x y → Joined n (LighterMoves n rows w bound) x y
+    members_are_lighter bound j = walk_weaker (λ v (c, l). (member_move g basis v c, l)) (λ x p. p) j
+
+    -- a member is essential if its lead is the least of its component
+    pub member_is_essential : (m : List ℤ) → Contains moves m → IsLeastOfComponent n rows w (lead m) → IsEssential n rows w m
+    member_is_essential m c first =
+        let reduced = member_reduced g basis m c in
+        essential_from_ends g (member_move g basis m c) first (subst (IsLeast n rows) ((reduced_ends g reduced).1) reduced.least)
+
+    -- The members whose lead is the least of its component, ascending, are the answer: from the lead of each other
+    -- member lighter moves lead to a vector below it.
+    pub answer_from_components : {chosen : List (List ℤ)} → AllPairs (ComesBefore n w) chosen → All (λ m. Contains moves m × IsLeastOfComponent n rows w (lead m)) chosen →
+        ((m : List ℤ) → Contains moves m → Contains chosen m ⊎ ((x : List ℤ) × IsBelow (standard n) x (lead m) × Joined n (LighterMoves n rows w (weight w (lead m))) (lead m) x)) →
+        IsAnswer n rows w chosen
+    answer_from_components {chosen} ascending first others =
+        answer_from_reduced g basis ascending
+        (All-weaker (λ m. Contains moves m × IsLeastOfComponent n rows w (lead m)) (IsEssential n rows w) (λ m (c, l). member_is_essential m c l) chosen first)
+        (λ m c. ⊎_elim inl (λ (x, b, j). inr (joined_from_lighter g (member_move g basis m c) x j b)) (others m c))

@@ -1,10 +1,9 @@
 -- Steps down by moves that are joined below in pairs: any two joined vectors step down to one.
-use Rattle.std.proofs.Common.{◌≡◌, ◌⊎◌, inl, inr, ℕ, zero, suc, ◌^◌, ◌<◌, List, length, get_or, ℤ, pos, Contains, arith, ap, refl, sym, ◌∙◌, subst}
-use Rattle.std.proofs.lemmas.Int.{ints}
+use Rattle.std.proofs.Common.{◌≡◌, ◌⊎◌, inl, inr, ℕ, zero, suc, ◌^◌, ◌<◌, List, length, get_or, ℤ, Contains, arith, ap, refl, sym, ◌∙◌, subst}
 use Rattle.std.proofs.lemmas.List.{get_or_default}
 use Rattle.std.proofs.lemmas.List.Elements.{All-contains}
 use borrow.Author.Differences.{up}
-use Rattle.mk_model.specs.Vectors.{add, subtract, negative_part, positive_part, weight, IsPoint}
+use Rattle.mk_model.specs.Vectors.{add, subtract, weight, IsPoint}
 use Rattle.mk_model.specs.Lattices.{InLattice}
 use Rattle.mk_model.specs.Walks.{IsStep, Walk, Members, Joined}
 use Rattle.mk_model.specs.Walks.Walk.{stay, step}
@@ -12,10 +11,11 @@ use Rattle.mk_model.specs.Orders.{IsBelow, IsOriented, lead}
 use Rattle.mk_model.specs.Reductions.{lcm, Divides, Reaches, IsDescent, Meet}
 use Rattle.mk_model.specs.Reductions.Reaches.{here, go}
 use Rattle.mk_model.specs.Pairs.{AreOrientedMoves, IsPointBelow, JoinedBelow, EveryPairJoined}
-use Rattle.mk_model.proofs.VectorAlgebra.{lengths, columns, same_vectors, weight-add, weight-subtract, subtract-add, add_difference, IsPoint-positive_part, IsPoint-add}
-use Rattle.mk_model.proofs.OrderLaws.{IsBelow-add, IsBelow-transitive}
+use Rattle.mk_model.proofs.VectorAlgebra.{subtract-add, add_difference, IsPoint-positive_part, IsPoint-add}
+use Rattle.mk_model.proofs.OrderLaws.{IsBelow-add, IsBelow-subtract, IsBelow-transitive}
 use Rattle.mk_model.proofs.WalkLaws.{walk_from, walk_to, walk_append, walk_weaker}
-use Rattle.mk_model.proofs.LatticeLaws.{InLattice-columns, InLattice-weight}
+use Rattle.mk_model.proofs.LatticeLaws.{InLattice-columns}
+use Rattle.mk_model.proofs.Fibres.{step_weight}
 use Rattle.mk_model.proofs.Translation.{walk_translate, walk_turned, walk_keeps, subtract-exchange_last}
 use Rattle.mk_model.proofs.Divisors.{lcm-comm, Divides-lcm_first, Divides-lcm_second, lcm_divides, IsPoint-lcm, IsPoint-lower, IsPoint-quotient, lead_divides}
 use Rattle.mk_model.proofs.Ranks.{rank, rank_limit, rank_below, IsBounded-weight}
@@ -33,9 +33,6 @@ module _ {n : ℕ} {rows : List (List ℤ)} {w : List ℤ} {p : List ℕ} {moves
   pub member_columns : (m : List ℤ) → Contains moves m → length m ≡ n
   member_columns m h = InLattice-columns n rows m o.grading.rows_columns (All-contains (InLattice n rows) moves m o.in_lattice h)
 
-  member_weight : (m : List ℤ) → Contains moves m → weight w m ≡ pos 0
-  member_weight m h = InLattice-weight w n rows m o.grading.rows_weight (All-contains (InLattice n rows) moves m o.in_lattice h)
-
   -- ---- one step down
   pub descent_point : {x y : List ℤ} → IsPoint n x → IsDescent moves x y → IsPoint n y
   descent_point q d = rw d.below (IsPoint-lower d.move q (omega (arith, member_columns d.move d.member)) d.divides)
@@ -46,18 +43,10 @@ module _ {n : ℕ} {rows : List (List ℤ)} {w : List ℤ} {p : List ℕ} {moves
 
   pub descent_below : {x y : List ℤ} → IsPoint n x → IsDescent moves x y → IsBelow p y x
   descent_below {x} {y} q d =
-      let v = d.move in
-      let l : length v ≡ n = member_columns v d.member in
-      let rest = subtract x (positive_part v) in
-      let e : add (negative_part v) rest ≡ subtract x v = same_vectors _ _ (omega (arith, lengths, q.columns)) (λ c. omega (arith, ints, columns)) in
-      let f : add (positive_part v) rest ≡ x = same_vectors _ _ (omega (arith, lengths, q.columns)) (λ c. omega (arith, ints, columns)) in
-      let b = IsBelow-add p (negative_part v) (positive_part v) rest (All-contains (IsOriented p) moves v o.oriented d.member) in
-      rw d.below (rw (e, f) at b)
+      rw d.below (IsBelow-subtract p x d.move (All-contains (IsOriented p) moves d.move o.oriented d.member))
 
-  step_weight : {x y : List ℤ} → IsPoint n x → IsStep (Members moves) x y → weight w y ≡ weight w x
-  step_weight {x} {y} q (m, h, inl e) = omega (arith, ints, ap (weight w) e, weight-add w x m, member_weight m h)
-  step_weight {x} {y} q (m, h, inr e) =
-      omega (arith, ints, ap (weight w) e, weight-subtract w x m (omega (arith, member_columns m h, q.columns)), member_weight m h)
+  member_step_weight : {x y : List ℤ} → IsPoint n x → IsStep (Members moves) x y → weight w y ≡ weight w x
+  member_step_weight {x} {y} q (m, h, s) = step_weight o.grading x y m q (All-contains (InLattice n rows) moves m o.in_lattice h) s
 
   -- a step between points goes down one way or the other
   step_descends : {x y : List ℤ} → IsPoint n x → IsPoint n y → IsStep (Members moves) x y → IsDescent moves x y ⊎ IsDescent moves y x
@@ -144,7 +133,7 @@ module _ {n : ℕ} {rows : List (List ℤ)} {w : List ℤ} {p : List ℕ} {moves
   lower_rank W x z q e b f = rank_below (up W) p z x (rw f at (IsBounded-weight o.grading b.point)) (rw e at (IsBounded-weight o.grading q)) b.below
 
   pub descent_weight : {x y : List ℤ} → IsPoint n x → IsDescent moves x y → weight w y ≡ weight w x
-  descent_weight q d = step_weight q (d.move, d.member, inr d.below)
+  descent_weight q d = member_step_weight q (d.move, d.member, inr d.below)
 
   pub descent_rank : (W : ℤ) (x y : List ℤ) → IsPoint n x → weight w x ≡ W → IsDescent moves x y → rank (up W) p y < rank (up W) p x
   descent_rank W x y q e d = lower_rank W x y q e (point_below_from_descent q d) (descent_weight q d ∙ e)
@@ -172,7 +161,7 @@ module _ {n : ℕ} {rows : List (List ℤ)} {w : List ℤ} {p : List ℕ} {moves
       over : (z : List ℤ) → Reaches (IsDescent moves) x z → Reaches (IsDescent moves) v z → Meet moves u v
       over z here s = record { common = u; from_first = here; from_second = reaches_append s (go d here) }
       over z (go {y = y} e r) s =
-          let near = walk_keeps (λ z. weight w z ≡ W) (λ a b h k f. step_weight h.point k ∙ f) (descent_weight q.point d ∙ q.weighs) (peak pairs q.point d e) in
+          let near = walk_keeps (λ z. weight w z ≡ W) (λ a b h k f. member_step_weight h.point k ∙ f) (descent_weight q.point d ∙ q.weighs) (peak pairs q.point d e) in
           let first : Walk (Members moves) (IsVertex W t) u y = walk_weaker (λ m h. h) (λ z (h, f). vertex_below W t x z q h f) near in
           let below : Meet moves u z = ih u z (walk_append first (descent_walk (vertex_descent W t) (walk_to first) r)) in
           record { common = below.common; from_first = below.from_first; from_second = reaches_append s below.from_second }
@@ -189,6 +178,6 @@ module _ {n : ℕ} {rows : List (List ℤ)} {w : List ℤ} {p : List ℕ} {moves
   pub confluence : EveryPairJoined n p moves → (x y : List ℤ) → Joined n (Members moves) x y → Meet moves x y
   confluence pairs x y walk =
       let W = weight w x in
-      let level = walk_keeps (λ z. weight w z ≡ W) (λ a b h k f. step_weight h k ∙ f) refl walk in
+      let level = walk_keeps (λ z. weight w z ≡ W) (λ a b h k f. member_step_weight h k ∙ f) refl walk in
       meets pairs W (suc (up W) ^ length p) x y
       (walk_weaker (λ m h. h) (λ z (h, f). record { point = h; weighs = f; ranked = rank_limit (up W) p z }) level)

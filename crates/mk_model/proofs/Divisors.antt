@@ -1,5 +1,5 @@
 -- Least common multiples, and vectors that divide others.
-use Rattle.std.proofs.Common.{◌≡◌, ◌⊎◌, inl, inr, ℕ, ◌+◌, ◌≤◌, ◌<◌, max, List, length, ℤ, pos, ◌-ℤ◌, ◌≤ℤ◌, arith, refl}
+use Rattle.std.proofs.Common.{◌≡◌, ◌⊎◌, inl, inr, ℕ, ◌+◌, ◌≤◌, ◌<◌, max, List, length, ℤ, pos, ◌-ℤ◌, ◌≤ℤ◌, arith, refl, ⊎_elim}
 use Rattle.std.proofs.lemmas.Int.{ints, clamps, int_max_is}
 use Rattle.std.specs.Int.{int_max}
 use borrow.Author.Differences.{up, down}
@@ -9,7 +9,7 @@ use Rattle.mk_model.specs.Reductions.{lcm, Divides}
 use Rattle.std.specs.Prelude.{int_le, All}
 use Rattle.std.specs.Bool.{Decides}
 use Rattle.std.specs.List.{list_all}
-use Rattle.std.proofs.lemmas.Bool.{cases_lt}
+use Rattle.std.proofs.lemmas.Bool.{cases_lt, cases_Bool, both_ways}
 use Rattle.std.proofs.lemmas.Bool.Decides.{Decides-like, Decides-by_and}
 use Rattle.std.proofs.lemmas.List.{get_or_past, get_or_default}
 use Rattle.mk_model.specs.Saturation.{divides}
@@ -99,3 +99,8 @@ Decides-divides x y =
 
     back : Divides x y → All (λ a. a ≤ℤ pos 0) (subtract x y)
     back h k d l = rw (get_or_default (subtract x y) k d (pos 0) l) (omega (arith, ints, columns, h.entries k))
+
+pub divides_or_not : (x y : List ℤ) → Divides x y ⊎ (Divides x y → ⊥)
+divides_or_not x y =
+    ⊎_elim (λ e. inl ((Decides-divides x y).0 e)) (λ e. inr (λ d. both_ways (divides x y) e ((Decides-divides x y).1 d)))
+    (cases_Bool (divides x y))

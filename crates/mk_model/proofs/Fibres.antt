@@ -1,4 +1,4 @@
--- Points of one fibre: what they share, walks with a point added, and the moves that lead from one to the other.
+-- Points of one fibre: what they share, and the moves that lead from one to the other.
 use Rattle.std.proofs.Common.{◌≡◌, ◌⊎◌, inl, inr, ℕ, ◌≤◌, min, List, [], ◌∷◌, length, ℤ, pos, negsuc, ◌≤ℤ◌, ◌<ℤ◌, arith, ap, sym, ◌∙◌, subst, ⊎_elim}
 use Rattle.std.proofs.lemmas.Int.{ints, by_lt_z}
 use borrow.Author.Differences.{up, down}
@@ -8,11 +8,13 @@ use Rattle.mk_model.specs.Orders.{IsBelow, IsOriented, standard, lead, tail}
 use Rattle.mk_model.specs.Walks.{IsStep, Joined}
 use Rattle.mk_model.specs.Walks.Walk.{stay, step}
 use Rattle.mk_model.specs.Bases.{IsMove}
-use Rattle.mk_model.proofs.VectorAlgebra.{lengths, columns, same_vectors, weight-subtract, negate-subtract, weight-add, only_zeros, IsPoint-add, add-zeros}
+use Rattle.mk_model.proofs.VectorAlgebra.{lengths, columns, same_vectors, weight-subtract, negate-subtract, weight-add, only_zeros, add-zeros}
 use Rattle.mk_model.proofs.OrderLaws.{IsBelow-total_standard}
 use Rattle.mk_model.proofs.WalkLaws.{walk_append, walk_back, one_step, walk_from, walk_to}
 use Rattle.mk_model.proofs.LatticeLaws.{InLattice-zeros, InLattice-add, InLattice-negate, InLattice-columns, InLattice-weight}
-use Rattle.mk_model.proofs.MoveRanks.{nonnegative_down, entry_within, weight_down}
+use Rattle.mk_model.proofs.Translation.{joined_translate}
+use Rattle.mk_model.proofs.Ranks.{down_of_nonnegative, IsBounded-weight}
+use Rattle.mk_model.proofs.MoveRanks.{weight_down}
 
 pub parts_apart : (z : ℤ) → min (up z) (down z) ≡ 0
 parts_apart (pos k) = omega arith
@@ -37,27 +39,12 @@ pub negative_and_shared : (x y : List ℤ) → length x ≡ length y → add (ne
 unfolding shared
 negative_and_shared x y l = same_vectors _ _ (omega (arith, lengths)) (λ c. omega (arith, ints, columns))
 
--- ---- walks with a point added
-plus_moved : (x m t : List ℤ) → add (add x m) t ≡ add (add x t) m
-plus_moved x m t = same_vectors _ _ (omega (arith, lengths)) (λ c. omega (arith, ints, columns))
-
-minus_moved : (x m t : List ℤ) → add (subtract x m) t ≡ subtract (add x t) m
-minus_moved x m t = same_vectors _ _ (omega (arith, lengths)) (λ c. omega (arith, ints, columns))
-
-pub step_add : {moves : List ℤ → Type 0} (x y t : List ℤ) → IsStep moves x y → IsStep moves (add x t) (add y t)
-step_add x y t (m, a, inl e) = (m, a, inl (ap (λ v. add v t) e ∙ plus_moved x m t))
-step_add x y t (m, a, inr e) = (m, a, inr (ap (λ v. add v t) e ∙ minus_moved x m t))
-
-pub walk_add : {moves : List ℤ → Type 0} {n : ℕ} {x y : List ℤ} (t : List ℤ) → IsPoint n t → Joined n moves x y → Joined n moves (add x t) (add y t)
-walk_add t q (stay p) = stay (IsPoint-add p q)
-walk_add {moves} t q (step {x = x} {y = y} p s r) = step (IsPoint-add p q) (step_add {moves = moves} x y t s) (walk_add t q r)
-
 -- the ends of the difference joined, the points are joined
 pub joined_by_parts : {moves : List ℤ → Type 0} {n : ℕ} {x y : List ℤ} → IsPoint n x → IsPoint n y →
     Joined n moves (positive_part (subtract x y)) (negative_part (subtract x y)) → Joined n moves x y
 joined_by_parts {moves} {n} {x} {y} p q j =
     let l : length x ≡ length y = p.columns ∙ sym q.columns in
-    rw (positive_and_shared x y l, negative_and_shared x y l) at (walk_add {moves = moves} (shared x y) (IsPoint-shared p q) j)
+    rw (positive_and_shared x y l, negative_and_shared x y l) at (joined_translate {moves = moves} (shared x y) (IsPoint-shared p q) j)
 
 -- each step replaced by a walk
 pub walk_replace : {moves others : List ℤ → Type 0} {n : ℕ} → ((x y : List ℤ) → IsPoint n x → IsPoint n y → IsStep moves x y → Joined n others x y) →
@@ -94,7 +81,7 @@ AreEnds m x y = ((x ≡ lead m) × (y ≡ tail m)) ⊎ ((x ≡ tail m) × (y ≡
 module _ {n : ℕ} {rows : List (List ℤ)} {w : List ℤ} (g : IsGrading n rows w) where
   pub point_of_no_weight : (x : List ℤ) → IsPoint n x → weight w x ≤ℤ pos 0 → x ≡ zeros n
   point_of_no_weight x p h =
-      only_zeros x (λ c. omega (arith, ints, h, entry_within g x p c, p.nonnegative c, nonnegative_down (entry x c) (p.nonnegative c), weight_down g x p)) ∙ ap zeros p.columns
+      only_zeros x (λ c. omega (arith, ints, h, (IsBounded-weight g p).within c, p.nonnegative c, down_of_nonnegative (entry x c) (p.nonnegative c), weight_down g x p)) ∙ ap zeros p.columns
 
   -- the lead of the difference of two points is lighter than the first, or they are its ends
   pub lead_of_difference : (x y : List ℤ) → IsPoint n x → IsPoint n y →

@@ -1,5 +1,5 @@
 -- Members of lists, and lists that ascend.
-use Rattle.std.proofs.Common.{◌≡◌, ◌⊎◌, inl, inr, zero, suc, List, [], ◌∷◌, AllPairs, Contains, arith, refl, sym, ◌∙◌, subst}
+use Rattle.std.proofs.Common.{◌≡◌, ◌⊎◌, inl, inr, zero, suc, List, [], ◌∷◌, AllPairs, Contains, arith, refl, sym, ◌∙◌, subst, ⊎_elim}
 
 module _ {X : Type 0} where
   pub Contains-none : (x : X) → Contains [] x → ⊥
@@ -20,6 +20,16 @@ module _ {X : Type 0} where
 
   pub AllPairs-head : (R : X → X → Type 0) (x : X) (xs : List X) → AllPairs R (x ∷ xs) → (y : X) → Contains xs y → R x y
   AllPairs-head R x xs a y (k, l, e) = subst (R x) e (a 0 (suc k) y (omega arith) (omega arith))
+
+  -- a member that has a property which is decided, or none has it
+  pub member_or_none : (P : X → Type 0) (xs : List X) → ((x : X) → Contains xs x → P x ⊎ (P x → ⊥)) → ((x : X) × Contains xs x × P x) ⊎ ((x : X) → Contains xs x → P x → ⊥)
+  member_or_none P [] f = inr (λ x c h. Contains-none x c)
+  member_or_none P (a ∷ xs) f = go (f a (Contains-here a xs)) (member_or_none P xs (λ x c. f x (Contains-there a xs x c)))
+    where
+      go : P a ⊎ (P a → ⊥) → ((x : X) × Contains xs x × P x) ⊎ ((x : X) → Contains xs x → P x → ⊥) → ((x : X) × Contains (a ∷ xs) x × P x) ⊎ ((x : X) → Contains (a ∷ xs) x → P x → ⊥)
+      go (inl h) r = inl (a, Contains-here a xs, h)
+      go (inr k) (inl (x, c, h)) = inl (x, Contains-there a xs x c, h)
+      go (inr k) (inr r) = inr (λ x c h. ⊎_elim (λ e. k (subst P (sym e) h)) (λ d. r x d h) (Contains-cases a xs x c))
 
   -- Lists that ascend by an asymmetric relation are equal if each has the members of the other.
   pub same_from_members : (R : X → X → Type 0) → ((x y : X) → R x y → R y x → ⊥) → (xs ys : List X) → AllPairs R xs → AllPairs R ys →

@@ -3,7 +3,7 @@ use Rattle.std.proofs.Common.{◌≡◌, ◌⊎◌, inl, inr, ℕ, zero, suc, �
 use Rattle.std.proofs.lemmas.Int.{ints, by_lt_z}
 use Rattle.std.proofs.lemmas.List.{ext_get_or}
 use Rattle.std.proofs.lemmas.List.Elements.{All-nil, All-cons, All-head, All-tail, All-weaker}
-use Rattle.mk_model.specs.Vectors.{entry, add, negate, scale}
+use Rattle.mk_model.specs.Vectors.{entry, add, subtract, negate, scale}
 use Rattle.mk_model.specs.Orders.{IsBelow, IsOriented, standard, lead, tail, ComesBefore}
 use Rattle.mk_model.proofs.Integers.{below_product, same_from_product}
 use Rattle.mk_model.proofs.VectorAlgebra.{columns, entries, negative_part-scale, positive_part-scale, positive_part-negate, negative_part-negate, scale-negsuc}
@@ -72,6 +72,12 @@ pub IsBelow-add : (p : List ℕ) (x y z : List ℤ) → IsBelow p x y → IsBelo
 IsBelow-add [] x y z h = h
 IsBelow-add (c ∷ p) x y z (inl h) = inl (omega (arith, ints, columns))
 IsBelow-add (c ∷ p) x y z (inr (e, h)) = inr (omega (arith, ints, columns), IsBelow-add p x y z h)
+
+-- an oriented vector taken off leads down
+pub IsBelow-subtract : (p : List ℕ) (x m : List ℤ) → IsOriented p m → IsBelow p (subtract x m) x
+IsBelow-subtract [] x m h = h
+IsBelow-subtract (c ∷ p) x m (inl h) = inl (omega (arith, ints, columns))
+IsBelow-subtract (c ∷ p) x m (inr (e, h)) = inr (omega (arith, ints, columns), IsBelow-subtract p x m h)
 
 -- one positive factor for both is cancelled
 pub IsBelow-scale_back : (p : List ℕ) (k : ℕ) (x y : List ℤ) → IsBelow p (scale (pos (suc k)) x) (scale (pos (suc k)) y) → IsBelow p x y

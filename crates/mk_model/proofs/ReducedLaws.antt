@@ -11,13 +11,15 @@ use Rattle.mk_model.specs.Walks.Walk.{stay, step}
 use Rattle.mk_model.specs.Bases.{IsAnswer, MovesBefore, IsMove, IsEssential, IsMarkov}
 use Rattle.mk_model.specs.Reductions.{Divides}
 use Rattle.mk_model.specs.ReducedBases.{IsLeast, IsReducedMove, IsReducedBasis}
-use Rattle.mk_model.proofs.Lists.{same_from_members}
-use Rattle.mk_model.proofs.OrderLaws.{IsBelow-transitive, ComesBefore-asymmetric}
+use Rattle.mk_model.proofs.Lists.{same_from_members, member_or_none}
+use Rattle.mk_model.proofs.OrderLaws.{IsBelow-subtract, IsBelow-transitive, ComesBefore-asymmetric}
 use Rattle.mk_model.proofs.WalkLaws.{walk_append, walk_back, one_step}
 use Rattle.mk_model.proofs.MoveLaws.{IsMove-columns, IsMove-lead, IsMove-tail, IsMove-ends}
 use Rattle.mk_model.proofs.Fibres.{same_fibre_step, same_fibre_of_walk, step_weight, lead_of_difference, same_fibre_back, same_fibre_append, same_fibre_weight, same_fibre_stay, move_of_difference, total_points}
-use Rattle.mk_model.proofs.MoveRanks.{weight_down, by_number, rank, rank_of_points}
-use Rattle.mk_model.proofs.DivisorWeights.{divisor_cases, IsBelow-subtract, proper_divisor_lighter, Divides-itself, Divides-transitive, Divides-lead_of_difference, IsPoint-subtract, divides_or_not, member_or_none}
+use Rattle.mk_model.proofs.MoveRanks.{weight_down, by_number, rank_of_points}
+use Rattle.mk_model.proofs.Ranks.{rank}
+use Rattle.mk_model.proofs.Divisors.{Divides-itself, Divides-transitive, Divides-positive_part, IsPoint-lower, divides_or_not}
+use Rattle.mk_model.proofs.DivisorWeights.{divisor_cases, proper_divisor_lighter}
 use Rattle.mk_model.proofs.MoveOrder.{same_from_ends}
 use Rattle.mk_model.proofs.StarLaws.{to_tail, joined_under_tail, essential_is_reduced}
 
@@ -55,7 +57,7 @@ module _ {n : ℕ} {rows : List (List ℤ)} {w : List ℤ} (g : IsGrading n rows
 
         refuse : weight w (lead d) <ℤ weight w reduced.from → ⊥
         refuse l =
-            let least = reduced.divisors (lead d) (IsMove-lead g move) (Divides-lead_of_difference reduced.from reduced.to reduced.point reduced.least.point)
+            let least = reduced.divisors (lead d) (IsMove-lead g move) (Divides-positive_part reduced.point reduced.least.point)
             (λ e. omega (arith, ints, l, ap (weight w) e)) in
             least.none_below (tail d) (IsMove-tail g move) (same_fibre_back g (lead d) (tail d) (IsMove-ends g move)) move.oriented
 
@@ -123,7 +125,7 @@ module _ {n : ℕ} {rows : List (List ℤ)} {w : List ℤ} (g : IsGrading n rows
     pub least_or_divided : (x : List ℤ) → IsPoint n x → IsLeast n rows x ⊎ ((m : List ℤ) × Contains moves m × Divides (lead m) x)
     least_or_divided x p =
         ⊎_elim inr (λ none. inl (undivided_is_least x p none))
-        (member_or_none (λ m. Divides (lead m) x) moves (λ m c. divides_or_not (lead m) x (IsMove-lead g (member_move m c)) p))
+        (member_or_none (λ m. Divides (lead m) x) moves (λ m c. divides_or_not (lead m) x))
 
     -- each vector steps down to the least of its fibre
     pub to_least : (x : List ℤ) → IsPoint n x → (z : List ℤ) × IsLeast n rows z × Joined n (Members moves) x z
@@ -137,7 +139,7 @@ module _ {n : ℕ} {rows : List (List ℤ)} {w : List ℤ} (g : IsGrading n rows
             on (inl l) = (x, l, stay p)
             on (inr (m, c, d)) =
                 let move = member_move m c in
-                let q : IsPoint n (subtract x m) = IsPoint-subtract m p (IsMove-columns g move) d in
+                let q : IsPoint n (subtract x m) = IsPoint-lower m p (omega (arith, IsMove-columns g move)) d in
                 let e : weight w (subtract x m) ≡ weight w x = step_weight g x (subtract x m) m p move.in_lattice (inr refl) in
                 let (z, l, j) = lower (subtract x m) (rank_of_points g (subtract x m) x q p e (IsBelow-subtract (standard n) x m move.oriented)) q in
                 (z, l, step p (m, c, inr refl) j)
@@ -167,7 +169,7 @@ module _ {n : ℕ} {rows : List (List ℤ)} {w : List ℤ} (g : IsGrading n rows
         by_lighter : (m : List ℤ) → Contains moves m → Divides (lead m) (lead v) → weight w (lead m) <ℤ weight w (lead v) → Joined n (MovesBefore n rows w v) (lead v) (tail v)
         by_lighter m c d l =
             let move = member_move m c in
-            let q : IsPoint n (subtract (lead v) m) = IsPoint-subtract m (IsMove-lead g a) (IsMove-columns g move) d in
+            let q : IsPoint n (subtract (lead v) m) = IsPoint-lower m (IsMove-lead g a) (omega (arith, IsMove-columns g move)) d in
             let inside : InLattice n rows (subtract (lead v) (subtract (lead v) m)) =
             same_fibre_step g {moves = Members moves} members_inside (lead v) (subtract (lead v) m) (IsMove-lead g a) (m, c, inr refl) in
             to_tail g a (subtract (lead v) m)

@@ -14,7 +14,8 @@ use Rattle.mk_model.proofs.OrderLaws.{IsBelow-add, IsBelow-transitive, IsOriente
 use Rattle.mk_model.proofs.WalkLaws.{walk_append, walk_back, one_step, walk_from, walk_weaker, walk_to}
 use Rattle.mk_model.proofs.MoveLaws.{IsMove-lead, IsMove-tail, IsMove-ends, IsMove-same_weight}
 use Rattle.mk_model.proofs.Fibres.{AreEnds, same_fibre_step, same_fibre_of_walk, lead_of_difference, same_fibre_back, same_fibre_append, same_fibre_weight, move_of_difference, difference_step, total_points, ends_of_step}
-use Rattle.mk_model.proofs.DivisorWeights.{divisor_rest, proper_divisor_lighter}
+use Rattle.mk_model.proofs.Divisors.{IsPoint-quotient}
+use Rattle.mk_model.proofs.DivisorWeights.{proper_divisor_lighter}
 
 module _ {n : ℕ} {rows : List (List ℤ)} {w : List ℤ} (g : IsGrading n rows w) where
   module _ {m : List ℤ} (move : IsMove n rows m) where
@@ -73,7 +74,7 @@ module _ {n : ℕ} {rows : List (List ℤ)} {w : List ℤ} (g : IsGrading n rows
 
     rest_point : IsPoint n rest
     unfolding rest
-    rest_point = divisor_rest (IsMove-lead g move) p d
+    rest_point = IsPoint-quotient (IsMove-lead g move) (omega (arith, p.columns)) d
 
     with_rest : add y rest ≡ lead m
     unfolding rest

@@ -9,3 +9,7 @@ pub mod Reductions
 pub mod Pairs
 pub mod Saturation
 pub mod ReducedBases
+pub mod CoreStates
+pub mod Overflows
+pub mod Events
+pub mod Legal

@@ -1,0 +1,114 @@
+-- A journal that replays, and the same with its first two entries exchanged, which does not.
+use Rattle.std.proofs.Common.{◌≡◌, inl, inr, ℕ, zero, suc, List, [], ◌∷◌, ℤ, pos, negsuc, true, false, arith, ap, refl, sym, subst, ⊎_elim}
+use Rattle.std.proofs.lemmas.Bool.{both_ways}
+use Rattle.std.proofs.lemmas.Int.{ints}
+use Rattle.mk_model.specs.Vectors.{entry, zeros, combine, add, subtract, negate, scale, positive_part, negative_part}
+use Rattle.mk_model.specs.Orders.{lead}
+use Rattle.mk_model.specs.Reductions.{Divides, Reduct, IsIrreducible}
+use Rattle.mk_model.specs.Reductions.Reaches.{here, go}
+use Rattle.mk_model.specs.Pairs.{AreDisjoint}
+use Rattle.mk_model.specs.Saturation.{divides}
+use Rattle.mk_model.specs.CoreStates.{Pair, pair_of, Settle, settle, IsSettled}
+use Rattle.mk_model.specs.CoreStates.Way.{Coprime, Zero, Place}
+use Rattle.mk_model.specs.Events.{HasNormalReduct, IsPlaced}
+use Rattle.mk_model.specs.Legal.{IsNext, Replays}
+use Rattle.mk_model.proofs.Lists.{Contains-none, Contains-cases}
+use Rattle.mk_model.proofs.Divisors.{Decides-divides}
+
+abbrev first : List ℤ
+first = pos 1 ∷ negsuc 1 ∷ pos 1 ∷ pos 0 ∷ []
+
+abbrev second : List ℤ
+second = pos 0 ∷ negsuc 0 ∷ pos 2 ∷ negsuc 0 ∷ []
+
+abbrev third : List ℤ
+third = pos 1 ∷ negsuc 0 ∷ negsuc 0 ∷ pos 1 ∷ []
+
+abbrev column_one : List ℕ
+column_one = 1 ∷ 3 ∷ 2 ∷ 0 ∷ []
+
+abbrev placing : Settle
+placing = settle 0 (pair_of 0 1) (Place 2)
+
+abbrev reducing : Settle
+reducing = settle 0 (pair_of 0 2) Zero
+
+abbrev skipping : Settle
+skipping = settle 0 (pair_of 1 2) Coprime
+
+by_test : (x y : List ℤ) → divides x y ≡ true → Divides x y
+by_test x y e = (Decides-divides x y).0 e
+
+irreducible_more : (m : List ℤ) (moves : List (List ℤ)) (x : List ℤ) → divides (lead m) x ≡ false → IsIrreducible moves x → IsIrreducible (m ∷ moves) x
+irreducible_more m moves x e none v h d =
+    ⊎_elim (λ s. both_ways (divides (lead m) x) e ((Decides-divides (lead m) x).1 (subst (λ u. Divides (lead u) x) (sym s) d))) (λ k. none v k d)
+    (Contains-cases m moves v h)
+
+unsettled_more : (entry : Settle) (journal : List Settle) (pair : Pair) → ¬ (entry.pair ≡ pair) → ¬ (IsSettled journal pair) → ¬ (IsSettled (entry ∷ journal) pair)
+unsettled_more entry journal pair apart none (other, h, e) =
+    ⊎_elim (λ s. apart (subst (λ (t : Settle). t.pair ≡ pair) (sym s) e)) (λ k. none (other, k, e)) (Contains-cases entry journal other h)
+
+none_settled : (pair : Pair) → ¬ (IsSettled [] pair)
+none_settled pair (entry, h, e) = Contains-none entry h
+
+difference_is_normal : HasNormalReduct (first ∷ second ∷ []) (pair_of 0 1)
+unfolding divides subtract combine positive_part negative_part negate
+difference_is_normal = record {
+  remainder = negsuc 0 ∷ pos 1 ∷ pos 1 ∷ negsuc 0 ∷ [];
+  reduct = here;
+  normal = record {
+    not_zero = refl;
+    positive = irreducible_more first (second ∷ []) _ refl (irreducible_more second [] _ refl (λ v h _. Contains-none v h));
+    negative = irreducible_more first (second ∷ []) _ refl (irreducible_more second [] _ refl (λ v h _. Contains-none v h));
+  };
+}
+
+third_placed : IsPlaced column_one 3 (first ∷ second ∷ []) (pair_of 0 1) 2 third
+unfolding negate positive_part negative_part difference_is_normal
+third_placed = record {
+  at_end = refl;
+  room = omega arith;
+  oriented = inl (omega (arith, ints));
+  normal_reduct = difference_is_normal;
+  sign = inr refl;
+}
+
+to_zero : Reduct (first ∷ second ∷ third ∷ []) (subtract third first) (zeros 4)
+unfolding divides subtract add combine scale positive_part negative_part negate
+to_zero = go (record { move = second; member = (1, omega arith, refl); times = 1; some = omega arith; taken_off = inr (by_test _ _ refl, refl) }) here
+
+disjoint : AreDisjoint (lead second) (lead third)
+unfolding positive_part
+disjoint zero = inl refl
+disjoint (suc zero) = inl refl
+disjoint (suc (suc zero)) = inr refl
+disjoint (suc (suc (suc zero))) = inl refl
+disjoint (suc (suc (suc (suc c)))) = inl refl
+
+placing_next : IsNext 4 column_one 3 [] (first ∷ second ∷ []) placing (first ∷ second ∷ third ∷ [])
+placing_next = record {
+  of_moves = record { ordered = omega arith; within = omega arith };
+  unsettled = none_settled (pair_of 0 1);
+  settled = (third, third_placed, refl);
+}
+
+reducing_next : IsNext 4 column_one 3 (placing ∷ []) (first ∷ second ∷ third ∷ []) reducing (first ∷ second ∷ third ∷ [])
+reducing_next = record {
+  of_moves = record { ordered = omega arith; within = omega arith };
+  unsettled = unsettled_more placing [] (pair_of 0 2) (λ e. let f : 1 ≡ 2 = ap (λ (p : Pair). p.second) e in omega arith) (none_settled (pair_of 0 2));
+  settled = (to_zero, refl);
+}
+
+skipping_next : IsNext 4 column_one 3 (placing ∷ reducing ∷ []) (first ∷ second ∷ third ∷ []) skipping (first ∷ second ∷ third ∷ [])
+skipping_next = record {
+  of_moves = record { ordered = omega arith; within = omega arith };
+  unsettled = unsettled_more placing (reducing ∷ []) (pair_of 1 2) (λ e. let f : 0 ≡ 1 = ap (λ (p : Pair). p.first) e in omega arith)
+      (unsettled_more reducing [] (pair_of 1 2) (λ e. let f : 0 ≡ 1 = ap (λ (p : Pair). p.first) e in omega arith) (none_settled (pair_of 1 2)));
+  settled = (disjoint, refl);
+}
+
+pub in_order : Replays 4 column_one 3 [] (first ∷ second ∷ []) (placing ∷ reducing ∷ skipping ∷ []) (first ∷ second ∷ third ∷ [])
+in_order = (first ∷ second ∷ third ∷ [], placing_next, (first ∷ second ∷ third ∷ [], reducing_next, (first ∷ second ∷ third ∷ [], skipping_next, refl)))
+
+pub exchanged : ¬ (Replays 4 column_one 3 [] (first ∷ second ∷ []) (reducing ∷ placing ∷ skipping ∷ []) (first ∷ second ∷ third ∷ []))
+exchanged (after, next, rest) = let l = next.of_moves.within in omega arith

@@ -1,6 +1,6 @@
 //! The laws of the definitions. Each is the contract of a function that takes nothing and gives nothing.
 
-ghost use Rattle.std.specs.Prelude.{◌≡◌, ◌⊎◌, ℕ, ℤ, List, [], ◌∷◌, Bool, IsTrue, All, Contains, pos, neg_ℤ, ◌≤ℤ◌, ◌↔◌, negsuc};
+ghost use Rattle.std.specs.Prelude.{◌≡◌, ◌⊎◌, ℕ, ℤ, List, [], ◌∷◌, ◌++◌, Bool, IsTrue, All, Contains, pos, neg_ℤ, ◌≤ℤ◌, ◌↔◌, negsuc};
 ghost use Rattle.mk_model.specs.Vectors.{negate, entry, zeros, add, subtract, negative_part, IsPoint};
 ghost use Rattle.mk_model.specs.Lattices.{IsGrading, nonzero_rows, InLattice, ones};
 ghost use Rattle.mk_model.specs.Walks.{Joined, Members};
@@ -10,6 +10,10 @@ ghost use Rattle.mk_model.specs.Reductions.{lcm, Divides, Meet, Reduct};
 ghost use Rattle.mk_model.specs.Pairs.{AreOrientedMoves, JoinedBelow, EveryPairJoined, AreDisjoint};
 ghost use Rattle.mk_model.specs.Saturation.{IsSupported, without_column, ConnectedUpTo, drop_redundant};
 ghost use Rattle.mk_model.specs.ReducedBases.{IsLeast, IsReducedBasis, IsStarMove};
+ghost use Rattle.mk_model.specs.CoreStates.{Settle, CoreState, pair_of, settle, start_of};
+ghost use Rattle.mk_model.specs.CoreStates.Way.{Coprime, Zero, Place};
+ghost use Rattle.mk_model.specs.Events.{Event, Happens};
+ghost use Rattle.mk_model.specs.Legal.{IsNext, Replays, IsLegal, IsEnded};
 
 /// A lattice of zero rows has no move, and the answer has none.
 pub fn answer_without_rows()
@@ -158,4 +162,42 @@ pub fn reduced_basis_has_the_essential_moves()
 pub fn essential_moves_are_stars()
     ensures { (n : ℕ) (rows : List (List ℤ)) (w m : List ℤ) → IsGrading n rows w →
         IsEssential n rows w m ↔ IsStarMove n rows w m }
+{}
+
+/// A journal that replays goes on by one entry at its end.
+pub fn replay_goes_on()
+    ensures { (n : ℕ) (priority : List ℕ) (limit : ℕ) (start basis after : List (List ℤ)) (journal : List Settle) (entry : Settle) →
+        Replays n priority limit [] start journal basis → IsNext n priority limit journal basis entry after →
+        Replays n priority limit [] start (journal ++ entry ∷ []) after }
+{}
+
+/// Each event keeps a state of a completion legal.
+pub fn events_keep_legal()
+    ensures { (n : ℕ) (priority : List ℕ) (state : CoreState) (event : Event) (after : CoreState) →
+        IsLegal n priority state → Happens n priority state event after → IsLegal n priority after }
+{}
+
+/// In a legal state that is ended every pair of the basis is joined below, where the moves of the start were oriented.
+pub fn ended_is_joined()
+    ensures oriented { (n : ℕ) (rows : List (List ℤ)) (w : List ℤ) (priority : List ℕ) (state : CoreState) →
+        IsLegal n priority state → AreOrientedMoves n rows w priority (start_of state) →
+        AreOrientedMoves n rows w priority state.basis }
+    ensures joined { (n : ℕ) (rows : List (List ℤ)) (w : List ℤ) (priority : List ℕ) (state : CoreState) →
+        IsLegal n priority state → AreOrientedMoves n rows w priority (start_of state) → IsEnded state →
+        EveryPairJoined n priority state.basis }
+{}
+
+/// Under the list of column 1 of 4 columns, the completion of `(1 -2 1 0)` and `(0 -1 2 -1)` places `(1 -1 -1 1)`. Its
+/// journal replays, and the same journal with its first two entries exchanged does not.
+pub fn journal_examples()
+    ensures in_order { Replays 4 (1 ∷ 3 ∷ 2 ∷ 0 ∷ []) 3 []
+        ((pos 1 ∷ neg_ℤ (pos 2) ∷ pos 1 ∷ pos 0 ∷ []) ∷ (pos 0 ∷ neg_ℤ (pos 1) ∷ pos 2 ∷ neg_ℤ (pos 1) ∷ []) ∷ [])
+        (settle 0 (pair_of 0 1) (Place 2) ∷ settle 0 (pair_of 0 2) Zero ∷ settle 0 (pair_of 1 2) Coprime ∷ [])
+        ((pos 1 ∷ neg_ℤ (pos 2) ∷ pos 1 ∷ pos 0 ∷ []) ∷ (pos 0 ∷ neg_ℤ (pos 1) ∷ pos 2 ∷ neg_ℤ (pos 1) ∷ [])
+        ∷ (pos 1 ∷ neg_ℤ (pos 1) ∷ neg_ℤ (pos 1) ∷ pos 1 ∷ []) ∷ []) }
+    ensures exchanged { ¬ (Replays 4 (1 ∷ 3 ∷ 2 ∷ 0 ∷ []) 3 []
+        ((pos 1 ∷ neg_ℤ (pos 2) ∷ pos 1 ∷ pos 0 ∷ []) ∷ (pos 0 ∷ neg_ℤ (pos 1) ∷ pos 2 ∷ neg_ℤ (pos 1) ∷ []) ∷ [])
+        (settle 0 (pair_of 0 2) Zero ∷ settle 0 (pair_of 0 1) (Place 2) ∷ settle 0 (pair_of 1 2) Coprime ∷ [])
+        ((pos 1 ∷ neg_ℤ (pos 2) ∷ pos 1 ∷ pos 0 ∷ []) ∷ (pos 0 ∷ neg_ℤ (pos 1) ∷ pos 2 ∷ neg_ℤ (pos 1) ∷ [])
+        ∷ (pos 1 ∷ neg_ℤ (pos 1) ∷ neg_ℤ (pos 1) ∷ pos 1 ∷ []) ∷ [])) }
 {}

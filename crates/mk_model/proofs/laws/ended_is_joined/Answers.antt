@@ -1,0 +1,8 @@
+use Rattle.mk_model.proofs.EndedStates.{legal_sound, ended_joined}
+use Rattle.mk_model.proofs.laws.ended_is_joined.Goals as goal
+
+pub returns : goal.returns
+returns c = record {
+  oriented = λ n rows w priority state legal o. (legal_sound n rows w priority state legal o).oriented;
+  joined = λ n rows w priority state legal o ended. ended_joined n rows w priority state legal o ended;
+}

@@ -1,11 +1,11 @@
 -- Each event keeps a state legal.
-use Rattle.std.proofs.Common.{◌≡◌, ◌⊎◌, inl, inr, ℕ, zero, suc, ◌+◌, ◌<◌, List, [], ◌∷◌, ◌++◌, length, get_or, set, Option, None, Some, arith, ap, refl, sym, ◌∙◌, subst, ⊎_elim, length-append, length-set}
+use Rattle.std.proofs.Common.{◌≡◌, ◌⊎◌, inl, inr, ℕ, zero, suc, ◌+◌, ◌<◌, List, [], ◌∷◌, ◌++◌, length, get_or, set, replicate, Option, None, Some, arith, ap, refl, sym, ◌∙◌, subst, ⊎_elim, length-append, length-set, ◌≤◌, ℤ}
 use Rattle.std.proofs.lemmas.Bool.{cases_eq, cases_lt}
 use Rattle.std.proofs.lemmas.Option.{none-some, same_Some}
-use Rattle.std.proofs.lemmas.List.{get_or-set_same, get_or-set_other, get_or_past, set_past, take-append-le}
-use Rattle.mk_model.specs.CoreStates.{Pair, Way, Settle, settle, Halt, CoreState, claim_of, halt_of, start_of, IsPairOf, IsSettled, IsFree}
+use Rattle.std.proofs.lemmas.List.{get_or-set_same, get_or-set_other, get_or_past, set_past, take-append-le, take_all, length-replicate}
+use Rattle.mk_model.specs.CoreStates.{Pair, Way, Settle, settle, Halt, CoreState, claim_of, halt_of, start_of, new_state, phase_state, IsPairOf, IsSettled, IsFree}
 use Rattle.mk_model.specs.CoreStates.Halt.{Overflow, Full, Memory}
-use Rattle.mk_model.specs.Events.{Event, IsClaim, IsSettling, IsHalting, given_up, first_of, IsCause, Happens}
+use Rattle.mk_model.specs.Events.{Event, IsClaim, IsSettling, IsHalting, given_up, first_of, IsCause, Happens, HappenInTurn}
 use Rattle.mk_model.specs.Events.Event.{Claims, Settles, Halts}
 use Rattle.mk_model.specs.Legal.{IsNext, Replays, claims_held, IsKept, IsFirstHalted, IsLegal}
 use Rattle.mk_model.proofs.Journals.{settled_cases, replay_push, IsPairOf-append, IsGenuineOverflow-append, Grows, moves_grow}
@@ -214,3 +214,52 @@ pub events_keep : (n : ℕ) (priority : List ℕ) (state : CoreState) (event : E
 events_keep n priority state (Claims worker) after legal h = claim_keeps legal worker after h
 events_keep n priority state (Settles worker way) after legal h = settling_keeps legal worker way after h
 events_keep n priority state (Halts worker halt) after legal h = halting_keeps legal worker halt after h
+
+pub all_events_keep : (n : ℕ) (priority : List ℕ) (state : CoreState) (events : List Event) (after : CoreState) → IsLegal n priority state → HappenInTurn n priority state events after → IsLegal n priority after
+all_events_keep n priority state [] after legal e = subst (IsLegal n priority) (sym e) legal
+all_events_keep n priority state (event ∷ events) after legal (middle, h, rest) =
+    all_events_keep n priority middle events after (events_keep n priority state event middle legal h) rest
+
+-- ---- where events begin
+none_of : {X : Type 0} (k i : ℕ) → ◌≡◌ {A = Option X} (get_or (replicate k None) i None) None
+none_of zero i = refl
+none_of (suc k) zero = refl
+none_of (suc k) (suc i) = none_of k i
+
+no_claims_held : (k : ℕ) → claims_held (replicate k None) ≡ 0
+no_claims_held zero = refl
+no_claims_held (suc k) = no_claims_held k
+
+pub new_is_legal : (n : ℕ) (priority : List ℕ) (start : List (List ℤ)) (budget limit workers : ℕ) → length start ≤ limit → IsLegal n priority (new_state start budget limit workers)
+new_is_legal n priority start budget limit workers l = record {
+  start_within = omega arith;
+  replays = sym (take_all (length start) start (omega arith));
+  basis_within = l;
+  claims_by_workers = length-replicate workers None;
+  claims_unsettled = λ a q e. absurd (none-some q (sym (none_of workers a) ∙ e));
+  claims_differ = λ a b q e f. absurd (none-some q (sym (none_of workers a) ∙ e));
+  claims_counted = omega (arith, no_claims_held workers);
+  claims_within = omega arith;
+  halts_by_workers = length-replicate workers None;
+  halted_without_claim = λ a halt e. none_of workers a;
+  halts_kept = λ a halt e. absurd (none-some halt (sym (none_of workers a) ∙ e));
+  first_halted = inl (refl, λ a. none_of workers a);
+}
+
+-- a legal state without its workers
+pub phase_is_legal : (n : ℕ) (priority : List ℕ) (state : CoreState) (budget : ℕ) → length state.journal ≤ budget → IsLegal n priority state →
+    IsLegal n priority (phase_state state.start_length state.basis state.journal budget state.limit)
+phase_is_legal n priority state budget l legal = record {
+  start_within = legal.start_within;
+  replays = legal.replays;
+  basis_within = legal.basis_within;
+  claims_by_workers = refl;
+  claims_unsettled = λ a q e. absurd (none-some q e);
+  claims_differ = λ a b q e f. absurd (none-some q e);
+  claims_counted = omega arith;
+  claims_within = l;
+  halts_by_workers = refl;
+  halted_without_claim = λ a halt e. refl;
+  halts_kept = λ a halt e. absurd (none-some halt e);
+  first_halted = inl (refl, λ a. refl);
+}

@@ -1,6 +1,6 @@
 -- The state of a completion as plain data: the moves, the settled pairs in their order, and what each worker is at.
 -- (Sturmfels, chapter 1: the pairs of Buchberger's algorithm. The journal and the workers are this project's own.)
-use Rattle.std.specs.Prelude.{◌≡◌, ◌⊎◌, ℕ, ◌<◌, List, [], get_or, length, take, Option, None, Some, ℤ, Contains}
+use Rattle.std.specs.Prelude.{◌≡◌, ◌⊎◌, ℕ, ◌<◌, List, [], get_or, length, replicate, take, Option, None, Some, ℤ, Contains}
 use Rattle.mk_model.specs.Vectors.{subtract}
 
 -- two moves of a list by their places
@@ -68,6 +68,22 @@ halt_of state worker = get_or state.halts worker None
 -- the moves that the completion began with
 abbrev pub start_of : CoreState → List (List ℤ)
 start_of state = take state.start_length state.basis
+
+-- a completion that begins: no pair is settled, and no worker has a claim or a halt
+abbrev pub new_state : List (List ℤ) → ℕ → ℕ → ℕ → CoreState
+new_state start budget limit workers = record {
+  start_length = length start;
+  basis = start;
+  journal = [];
+  claims = replicate workers None;
+  claims_made = 0;
+  claims_given_up = 0;
+  halts = replicate workers None;
+  first_halted = None;
+  budget = budget;
+  limit = limit;
+  workers = workers;
+}
 
 -- a completion without workers: its moves and its journal alone
 abbrev pub phase_state : ℕ → List (List ℤ) → List Settle → ℕ → ℕ → CoreState

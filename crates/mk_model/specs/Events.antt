@@ -108,3 +108,9 @@ abbrev pub Happens : ℕ → List ℕ → CoreState → Event → CoreState → 
 Happens n priority state (Claims worker) after = IsClaim state worker after
 Happens n priority state (Settles worker way) after = IsSettling n priority state worker way after
 Happens n priority state (Halts worker halt) after = IsHalting state worker halt after
+
+-- the events happen one after another
+abbrev pub HappenInTurn : ℕ → List ℕ → CoreState → List Event → CoreState → Type 0
+HappenInTurn n priority state [] after = after ≡ state
+HappenInTurn n priority state (event ∷ events) after =
+    (middle : CoreState) × Happens n priority state event middle × HappenInTurn n priority middle events after

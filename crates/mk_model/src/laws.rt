@@ -1,6 +1,6 @@
 //! The laws of the definitions. Each is the contract of a function that takes nothing and gives nothing.
 
-ghost use Rattle.std.specs.Prelude.{◌≡◌, ◌⊎◌, ℕ, ℤ, List, [], ◌∷◌, ◌++◌, Bool, IsTrue, All, Contains, pos, neg_ℤ, ◌≤ℤ◌, ◌↔◌, negsuc};
+ghost use Rattle.std.specs.Prelude.{◌≡◌, ◌⊎◌, ℕ, ℤ, List, [], ◌∷◌, ◌++◌, length, ◌≤◌, Bool, IsTrue, All, Contains, pos, neg_ℤ, ◌≤ℤ◌, ◌↔◌, negsuc};
 ghost use Rattle.mk_model.specs.Vectors.{negate, entry, zeros, add, subtract, negative_part, IsPoint};
 ghost use Rattle.mk_model.specs.Lattices.{IsGrading, nonzero_rows, InLattice, ones};
 ghost use Rattle.mk_model.specs.Walks.{Joined, Members};
@@ -10,9 +10,9 @@ ghost use Rattle.mk_model.specs.Reductions.{lcm, Divides, Meet, Reduct};
 ghost use Rattle.mk_model.specs.Pairs.{AreOrientedMoves, JoinedBelow, EveryPairJoined, AreDisjoint};
 ghost use Rattle.mk_model.specs.Saturation.{IsSupported, without_column, ConnectedUpTo, drop_redundant};
 ghost use Rattle.mk_model.specs.ReducedBases.{IsLeast, IsReducedBasis, IsStarMove};
-ghost use Rattle.mk_model.specs.CoreStates.{Settle, CoreState, pair_of, settle, start_of};
+ghost use Rattle.mk_model.specs.CoreStates.{Settle, CoreState, pair_of, settle, start_of, new_state, phase_state};
 ghost use Rattle.mk_model.specs.CoreStates.Way.{Coprime, Zero, Place};
-ghost use Rattle.mk_model.specs.Events.{Event, Happens};
+ghost use Rattle.mk_model.specs.Events.{Event, Happens, HappenInTurn};
 ghost use Rattle.mk_model.specs.Legal.{IsNext, Replays, IsLegal, IsEnded};
 
 /// A lattice of zero rows has no move, and the answer has none.
@@ -175,6 +175,18 @@ pub fn replay_goes_on()
 pub fn events_keep_legal()
     ensures { (n : ℕ) (priority : List ℕ) (state : CoreState) (event : Event) (after : CoreState) →
         IsLegal n priority state → Happens n priority state event after → IsLegal n priority after }
+{}
+
+/// A completion that begins with no more moves than its limit is legal, and stays so whatever events happen.
+pub fn reached_is_legal()
+    ensures { (n : ℕ) (priority : List ℕ) (start : List (List ℤ)) (budget limit workers : ℕ) (events : List Event) (after : CoreState) →
+        length start ≤ limit → HappenInTurn n priority (new_state start budget limit workers) events after → IsLegal n priority after }
+{}
+
+/// A legal state stays legal without its workers, with any budget of at least as many pairs as are settled.
+pub fn phase_is_legal()
+    ensures { (n : ℕ) (priority : List ℕ) (state : CoreState) (budget : ℕ) → length state.journal ≤ budget → IsLegal n priority state →
+        IsLegal n priority (phase_state state.start_length state.basis state.journal budget state.limit) }
 {}
 
 /// In a legal state that is ended every pair of the basis is joined below, where the moves of the start were oriented.

@@ -31,3 +31,4 @@ pub mod Journals
 pub mod LegalEvents
 pub mod EndedStates
 pub mod JournalExamples
+pub mod OverflowExamples

@@ -1,6 +1,6 @@
 //! The laws of the definitions. Each is the contract of a function that takes nothing and gives nothing.
 
-ghost use Rattle.std.specs.Prelude.{◌≡◌, ◌⊎◌, ℕ, ℤ, List, [], ◌∷◌, ◌++◌, length, ◌≤◌, Bool, IsTrue, All, Contains, pos, neg_ℤ, ◌≤ℤ◌, ◌↔◌, negsuc};
+ghost use Rattle.std.specs.Prelude.{◌≡◌, ◌⊎◌, ℕ, ℤ, List, [], ◌∷◌, ◌++◌, length, ◌≤◌, None, Some, Bool, IsTrue, All, Contains, pos, neg_ℤ, ◌≤ℤ◌, ◌↔◌, negsuc};
 ghost use Rattle.mk_model.specs.Vectors.{negate, entry, zeros, add, subtract, negative_part, IsPoint};
 ghost use Rattle.mk_model.specs.Lattices.{IsGrading, nonzero_rows, InLattice, ones};
 ghost use Rattle.mk_model.specs.Walks.{Joined, Members};
@@ -10,8 +10,9 @@ ghost use Rattle.mk_model.specs.Reductions.{lcm, Divides, Meet, Reduct};
 ghost use Rattle.mk_model.specs.Pairs.{AreOrientedMoves, JoinedBelow, EveryPairJoined, AreDisjoint};
 ghost use Rattle.mk_model.specs.Saturation.{IsSupported, without_column, ConnectedUpTo, drop_redundant};
 ghost use Rattle.mk_model.specs.ReducedBases.{IsLeast, IsReducedBasis, IsStarMove};
-ghost use Rattle.mk_model.specs.CoreStates.{Settle, CoreState, pair_of, settle, start_of, new_state, phase_state};
+ghost use Rattle.mk_model.specs.CoreStates.{Settle, CoreState, pair_of, settle, start_of, stop_at, new_state, phase_state};
 ghost use Rattle.mk_model.specs.CoreStates.Way.{Coprime, Zero, Place};
+ghost use Rattle.mk_model.specs.Overflows.{IsGenuineOverflow};
 ghost use Rattle.mk_model.specs.Events.{Event, Happens, HappenInTurn};
 ghost use Rattle.mk_model.specs.Legal.{IsNext, Replays, IsLegal, IsEnded};
 
@@ -212,4 +213,17 @@ pub fn journal_examples()
         (settle 0 (pair_of 0 2) Zero ∷ settle 0 (pair_of 0 1) (Place 2) ∷ settle 0 (pair_of 1 2) Coprime ∷ [])
         ((pos 1 ∷ neg_ℤ (pos 2) ∷ pos 1 ∷ pos 0 ∷ []) ∷ (pos 0 ∷ neg_ℤ (pos 1) ∷ pos 2 ∷ neg_ℤ (pos 1) ∷ [])
         ∷ (pos 1 ∷ neg_ℤ (pos 1) ∷ neg_ℤ (pos 1) ∷ pos 1 ∷ []) ∷ [])) }
+{}
+
+/// Entries that leave the range: 9223372036854775807 less -1, in the difference of a pair; and 9223372036854775803
+/// less -5, in a step of reduction.
+pub fn overflow_examples()
+    ensures difference { IsGenuineOverflow
+        ((neg_ℤ (pos 1) ∷ pos 1 ∷ []) ∷ (pos 9223372036854775807 ∷ neg_ℤ (pos 9223372036854775807) ∷ []) ∷ [])
+        (stop_at (pair_of 0 1) None None 0 (pos 9223372036854775807) (pos 1) (neg_ℤ (pos 1))) }
+    ensures step { IsGenuineOverflow
+        ((neg_ℤ (pos 5) ∷ pos 4 ∷ pos 0 ∷ pos 1 ∷ []) ∷ (pos 0 ∷ pos 9223372036854775807 ∷ neg_ℤ (pos 9223372036854775807) ∷ pos 0 ∷ [])
+        ∷ (pos 5 ∷ neg_ℤ (pos 5) ∷ pos 0 ∷ pos 0 ∷ []) ∷ [])
+        (stop_at (pair_of 0 1) (Some 2) (Some (pos 5 ∷ pos 9223372036854775803 ∷ neg_ℤ (pos 9223372036854775807) ∷ neg_ℤ (pos 1) ∷ []))
+        1 (pos 9223372036854775803) (pos 1) (neg_ℤ (pos 5))) }
 {}

@@ -8,6 +8,7 @@ pub record Pair : Type 0 where
   pub first : ℕ
   pub second : ℕ
 
+-- the pair of two places
 abbrev pub pair_of : ℕ → ℕ → Pair
 pair_of i j = record { first = i; second = j }
 
@@ -25,6 +26,7 @@ pub record Settle : Type 0 where
   pub worker : ℕ
   pub way : Way
 
+-- the entry of a worker for a pair
 abbrev pub settle : ℕ → Pair → Way → Settle
 settle worker pair way = record { pair = pair; worker = worker; way = way }
 
@@ -39,6 +41,7 @@ pub record OverflowStop : Type 0 where
   pub times : ℤ
   pub right : ℤ
 
+-- the stop with these numbers
 abbrev pub stop_at : Pair → Option ℕ → Option (List ℤ) → ℕ → ℤ → ℤ → ℤ → OverflowStop
 stop_at pair by operand column left times right = record { pair = pair; by = by; operand = operand; column = column; left = left; times = times; right = right }
 
@@ -62,9 +65,11 @@ pub record CoreState : Type 0 where
   pub limit : ℕ
   pub workers : ℕ
 
+-- the claim of a worker
 abbrev pub claim_of : CoreState → ℕ → Option Pair
 claim_of state worker = get_or state.claims worker None
 
+-- the halt of a worker
 abbrev pub halt_of : CoreState → ℕ → Option Halt
 halt_of state worker = get_or state.halts worker None
 
@@ -105,6 +110,7 @@ phase_state start_length basis journal budget limit = record {
 }
 
 -- ---- pairs
+-- the move of a place
 abbrev pub move_at : List (List ℤ) → ℕ → List ℤ
 move_at moves i = get_or moves i []
 

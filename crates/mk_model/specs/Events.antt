@@ -49,7 +49,7 @@ IsSettledBy n priority limit moves journal pair (Place place) after =
 abbrev pub IsFull : CoreState → Pair → Type 0
 IsFull state pair = (length state.basis ≡ state.limit) × HasNormalReduct state.basis pair
 
--- ---- the events
+-- ---- events: a worker claims a pair, settles its claim, or halts
 pub data Event : Type 0 where
   Claims : ℕ → Event
   Settles : ℕ → Way → Event

@@ -36,6 +36,8 @@ IsFirstHalted state =
     ((state.first_halted ≡ None) × ((worker : ℕ) → halt_of state worker ≡ None))
     ⊎ ((worker : ℕ) × (halt : Halt) × (state.first_halted ≡ Some worker) × (halt_of state worker ≡ Some halt))
 
+-- The journal replays from the start, claims are unsettled pairs and differ from one another, the counts agree, and
+-- kept halts have their causes.
 pub record IsLegal (n : ℕ) (priority : List ℕ) (state : CoreState) : Type 0 where
   pub start_within : state.start_length ≤ length state.basis
   pub replays : Replays n priority state.limit [] (start_of state) state.journal state.basis

@@ -1,5 +1,5 @@
 -- Least common multiples, and vectors that divide others.
-use Rattle.std.proofs.Common.{◌≡◌, ◌⊎◌, inl, inr, ℕ, ◌+◌, ◌≤◌, ◌<◌, max, List, length, ℤ, pos, ◌-ℤ◌, ◌≤ℤ◌, arith, refl, ⊎_elim}
+use Rattle.std.proofs.Common.{◌≡◌, ◌⊎◌, inl, inr, ℕ, ◌+◌, ◌≤◌, ◌<◌, max, List, length, ℤ, pos, ◌-ℤ◌, ◌≤ℤ◌, true, arith, refl, ⊎_elim}
 use Rattle.std.proofs.lemmas.Int.{ints, clamps, int_max_is}
 use Rattle.std.specs.Int.{int_max}
 use borrow.Author.Differences.{up, down}
@@ -99,6 +99,9 @@ Decides-divides x y =
 
     back : Divides x y → All (λ a. a ≤ℤ pos 0) (subtract x y)
     back h k d l = rw (get_or_default (subtract x y) k d (pos 0) l) (omega (arith, ints, columns, h.entries k))
+
+pub divides_true : (x y : List ℤ) → divides x y ≡ true → Divides x y
+divides_true x y e = (Decides-divides x y).0 e
 
 pub divides_or_not : (x y : List ℤ) → Divides x y ⊎ (Divides x y → ⊥)
 divides_or_not x y =

@@ -1,5 +1,5 @@
 -- A journal that replays, and the same with its first two entries exchanged, which does not.
-use Rattle.std.proofs.Common.{◌≡◌, inl, inr, ℕ, zero, suc, List, [], ◌∷◌, ℤ, pos, negsuc, true, false, arith, ap, refl, sym, subst, ⊎_elim}
+use Rattle.std.proofs.Common.{◌≡◌, inl, inr, ℕ, zero, suc, List, [], ◌∷◌, ℤ, pos, negsuc, false, arith, ap, refl, sym, subst, ⊎_elim}
 use Rattle.std.proofs.lemmas.Bool.{both_ways}
 use Rattle.std.proofs.lemmas.Int.{ints}
 use Rattle.mk_model.specs.Vectors.{entry, zeros, combine, add, subtract, negate, scale, positive_part, negative_part}
@@ -13,7 +13,7 @@ use Rattle.mk_model.specs.CoreStates.Way.{Coprime, Zero, Place}
 use Rattle.mk_model.specs.Events.{HasNormalReduct, IsPlaced}
 use Rattle.mk_model.specs.Legal.{IsNext, Replays}
 use Rattle.mk_model.proofs.Lists.{Contains-none, Contains-cases}
-use Rattle.mk_model.proofs.Divisors.{Decides-divides}
+use Rattle.mk_model.proofs.Divisors.{Decides-divides, divides_true}
 
 abbrev first : List ℤ
 first = pos 1 ∷ negsuc 1 ∷ pos 1 ∷ pos 0 ∷ []
@@ -35,9 +35,6 @@ reducing = settle 0 (pair_of 0 2) Zero
 
 abbrev skipping : Settle
 skipping = settle 0 (pair_of 1 2) Coprime
-
-by_test : (x y : List ℤ) → divides x y ≡ true → Divides x y
-by_test x y e = (Decides-divides x y).0 e
 
 irreducible_more : (m : List ℤ) (moves : List (List ℤ)) (x : List ℤ) → divides (lead m) x ≡ false → IsIrreducible moves x → IsIrreducible (m ∷ moves) x
 irreducible_more m moves x e none v h d =
@@ -75,7 +72,7 @@ third_placed = record {
 
 to_zero : Reduct (first ∷ second ∷ third ∷ []) (subtract third first) (zeros 4)
 unfolding divides subtract add combine scale positive_part negative_part negate
-to_zero = go (record { move = second; member = (1, omega arith, refl); times = 1; some = omega arith; taken_off = inr (by_test _ _ refl, refl) }) here
+to_zero = go (record { move = second; member = (1, omega arith, refl); times = 1; some = omega arith; taken_off = inr (divides_true _ _ refl, refl) }) here
 
 disjoint : AreDisjoint (lead second) (lead third)
 unfolding positive_part

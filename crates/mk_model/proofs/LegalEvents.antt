@@ -5,7 +5,7 @@ use Rattle.std.proofs.lemmas.Option.{none-some, same_Some}
 use Rattle.std.proofs.lemmas.List.{get_or-set_same, get_or-set_other, get_or_past, set_past, take-append-le, take_all, length-replicate}
 use Rattle.mk_model.specs.CoreStates.{Pair, Way, Settle, settle, Halt, CoreState, claim_of, halt_of, start_of, new_state, phase_state, IsPairOf, IsSettled, IsFree}
 use Rattle.mk_model.specs.CoreStates.Halt.{Overflow, Full, Memory}
-use Rattle.mk_model.specs.Events.{Event, IsClaim, IsSettling, IsHalting, given_up, first_of, IsCause, Happens, HappenInTurn}
+use Rattle.mk_model.specs.Events.{Event, IsClaim, IsSettling, IsHalting, given_up, first_of, with_entry, with_halt, IsCause, Happens, HappenInTurn}
 use Rattle.mk_model.specs.Events.Event.{Claims, Settles, Halts}
 use Rattle.mk_model.specs.Legal.{IsNext, Replays, claims_held, IsKept, IsFirstHalted, IsLegal}
 use Rattle.mk_model.proofs.Journals.{settled_cases, replay_push, IsPairOf-append, IsGenuineOverflow-append, Grows, moves_grow}
@@ -117,7 +117,7 @@ module _ {n : ℕ} {priority : List ℕ} {state : CoreState} (legal : IsLegal n 
       entry = settle worker h.pair way
 
       new : CoreState
-      new = record state { basis = h.moves; journal = state.journal ++ entry ∷ []; claims = set state.claims worker None }
+      new = with_entry state worker h.pair way h.moves
 
       next : IsNext n priority state.limit state.journal state.basis entry h.moves
       next = record {
@@ -167,12 +167,7 @@ module _ {n : ℕ} {priority : List ℕ} {state : CoreState} (legal : IsLegal n 
       within = omega (arith, legal.halts_by_workers, h.worker_within)
 
       new : CoreState
-      new = record state {
-        claims = set state.claims worker None;
-        claims_given_up = state.claims_given_up + given_up (claim_of state worker);
-        halts = set state.halts worker (Some halt);
-        first_halted = first_of state.first_halted worker;
-      }
+      new = with_halt state worker halt
 
       without : (a : ℕ) (other : Halt) → ((a ≡ worker) × (halt ≡ other)) ⊎ ((a ≡ worker → ⊥) × (halt_of state a ≡ Some other)) → claim_of new a ≡ None
       without a other (inl (e, _)) = ap (λ k. get_or (set state.claims worker None) k None) e ∙ cleared_here state.claims worker

@@ -7,7 +7,7 @@ use Rattle.mk_model.specs.Reductions.Reaches.{here}
 use Rattle.mk_model.specs.Saturation.{divides}
 use Rattle.mk_model.specs.CoreStates.{pair_of, stop_at, difference}
 use Rattle.mk_model.specs.Overflows.{IsGenuineOverflow}
-use Rattle.mk_model.proofs.Divisors.{Decides-divides}
+use Rattle.mk_model.proofs.Divisors.{divides_true}
 
 pub in_difference : IsGenuineOverflow ((negsuc 0 ∷ pos 1 ∷ []) ∷ (pos 9223372036854775807 ∷ neg_ℤ (pos 9223372036854775807) ∷ []) ∷ [])
     (stop_at (pair_of 0 1) None None 0 (pos 9223372036854775807) (pos 1) (negsuc 0))
@@ -36,7 +36,7 @@ from_difference = here
 
 lead_divides_once : Divides (scale (pos 1) (lead taken)) (positive_part from)
 unfolding combine subtract scale positive_part divides
-lead_divides_once = (Decides-divides (scale (pos 1) (lead taken)) (positive_part from)).0 refl
+lead_divides_once = divides_true (scale (pos 1) (lead taken)) (positive_part from) refl
 
 lesser_column : (c : ℕ) → c < 1 → IsEntry (entry from c -ℤ (pos 1 *ℤ entry taken c))
 lesser_column zero l = (record { le = tt }, record { le = tt })

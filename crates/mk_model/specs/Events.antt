@@ -55,6 +55,10 @@ pub data Event : Type 0 where
   Settles : ℕ → Way → Event
   Halts : ℕ → Halt → Event
 
+-- the pair is the claim of the worker, and one claim more is made
+abbrev pub with_claim : CoreState → ℕ → Pair → CoreState
+with_claim state worker pair = record state { claims = set state.claims worker (Some pair); claims_made = state.claims_made + 1 }
+
 -- No halt stands, and the claims made are fewer than the budget: the least free pair is the claim of a worker that had
 -- none, and one claim more is made.
 pub record IsClaim (state : CoreState) (worker : ℕ) (after : CoreState) : Type 0 where
@@ -65,7 +69,12 @@ pub record IsClaim (state : CoreState) (worker : ℕ) (after : CoreState) : Type
   pub pair : Pair
   pub free : IsFree state pair
   pub least : (other : Pair) → IsFree state other → ¬ (IsLesser other pair)
-  pub changed : after ≡ record state { claims = set state.claims worker (Some pair); claims_made = state.claims_made + 1 }
+  pub changed : after ≡ with_claim state worker pair
+
+-- an entry of the worker ends the journal, it has no claim, and the moves are these
+abbrev pub with_entry : CoreState → ℕ → Pair → Way → List (List ℤ) → CoreState
+with_entry state worker pair way moves =
+    record state { basis = moves; journal = state.journal ++ settle worker pair way ∷ []; claims = set state.claims worker None }
 
 -- A worker settles its claim: an entry for it ends the journal, and the worker has no claim.
 pub record IsSettling (n : ℕ) (priority : List ℕ) (state : CoreState) (worker : ℕ) (way : Way) (after : CoreState) : Type 0 where
@@ -73,7 +82,7 @@ pub record IsSettling (n : ℕ) (priority : List ℕ) (state : CoreState) (worke
   pub claimed : claim_of state worker ≡ Some pair
   pub moves : List (List ℤ)
   pub settled : IsSettledBy n priority state.limit state.basis state.journal pair way moves
-  pub changed : after ≡ record state { basis = moves; journal = state.journal ++ settle worker pair way ∷ []; claims = set state.claims worker None }
+  pub changed : after ≡ with_entry state worker pair way moves
 
 -- the cause of a halt
 abbrev pub IsCause : CoreState → ℕ → Halt → Type 0
@@ -91,17 +100,21 @@ abbrev pub first_of : Option ℕ → ℕ → Option ℕ
 first_of None worker = Some worker
 first_of (Some earlier) worker = Some earlier
 
+-- the claim of the worker is given up, and its halt is kept
+abbrev pub with_halt : CoreState → ℕ → Halt → CoreState
+with_halt state worker halt = record state {
+  claims = set state.claims worker None;
+  claims_given_up = state.claims_given_up + given_up (claim_of state worker);
+  halts = set state.halts worker (Some halt);
+  first_halted = first_of state.first_halted worker;
+}
+
 -- A worker without a halt halts: it gives up its claim, and its halt is kept, the first one if none stood.
 pub record IsHalting (state : CoreState) (worker : ℕ) (halt : Halt) (after : CoreState) : Type 0 where
   pub worker_within : worker < state.workers
   pub no_halt : halt_of state worker ≡ None
   pub cause : IsCause state worker halt
-  pub changed : after ≡ record state {
-    claims = set state.claims worker None;
-    claims_given_up = state.claims_given_up + given_up (claim_of state worker);
-    halts = set state.halts worker (Some halt);
-    first_halted = first_of state.first_halted worker;
-  }
+  pub changed : after ≡ with_halt state worker halt
 
 -- the event is allowed in a state, and changes it to the other
 abbrev pub Happens : ℕ → List ℕ → CoreState → Event → CoreState → Type 0

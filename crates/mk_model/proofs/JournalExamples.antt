@@ -15,25 +15,25 @@ use Rattle.mk_model.specs.Legal.{IsNext, Replays}
 use Rattle.mk_model.proofs.Lists.{Contains-none, Contains-cases}
 use Rattle.mk_model.proofs.Divisors.{Decides-divides, divides_true}
 
-abbrev first : List ℤ
+abbrev pub first : List ℤ
 first = pos 1 ∷ negsuc 1 ∷ pos 1 ∷ pos 0 ∷ []
 
-abbrev second : List ℤ
+abbrev pub second : List ℤ
 second = pos 0 ∷ negsuc 0 ∷ pos 2 ∷ negsuc 0 ∷ []
 
-abbrev third : List ℤ
+abbrev pub third : List ℤ
 third = pos 1 ∷ negsuc 0 ∷ negsuc 0 ∷ pos 1 ∷ []
 
-abbrev column_one : List ℕ
+abbrev pub column_one : List ℕ
 column_one = 1 ∷ 3 ∷ 2 ∷ 0 ∷ []
 
-abbrev placing : Settle
+abbrev pub placing : Settle
 placing = settle 0 (pair_of 0 1) (Place 2)
 
-abbrev reducing : Settle
+abbrev pub reducing : Settle
 reducing = settle 0 (pair_of 0 2) Zero
 
-abbrev skipping : Settle
+abbrev pub skipping : Settle
 skipping = settle 0 (pair_of 1 2) Coprime
 
 irreducible_more : (m : List ℤ) (moves : List (List ℤ)) (x : List ℤ) → divides (lead m) x ≡ false → IsIrreducible moves x → IsIrreducible (m ∷ moves) x
@@ -41,11 +41,11 @@ irreducible_more m moves x e none v h d =
     ⊎_elim (λ s. both_ways (divides (lead m) x) e ((Decides-divides (lead m) x).1 (subst (λ u. Divides (lead u) x) (sym s) d))) (λ k. none v k d)
     (Contains-cases m moves v h)
 
-unsettled_more : (entry : Settle) (journal : List Settle) (pair : Pair) → ¬ (entry.pair ≡ pair) → ¬ (IsSettled journal pair) → ¬ (IsSettled (entry ∷ journal) pair)
+pub unsettled_more : (entry : Settle) (journal : List Settle) (pair : Pair) → ¬ (entry.pair ≡ pair) → ¬ (IsSettled journal pair) → ¬ (IsSettled (entry ∷ journal) pair)
 unsettled_more entry journal pair apart none (other, h, e) =
     ⊎_elim (λ s. apart (subst (λ (t : Settle). t.pair ≡ pair) (sym s) e)) (λ k. none (other, k, e)) (Contains-cases entry journal other h)
 
-none_settled : (pair : Pair) → ¬ (IsSettled [] pair)
+pub none_settled : (pair : Pair) → ¬ (IsSettled [] pair)
 none_settled pair (entry, h, e) = Contains-none entry h
 
 difference_is_normal : HasNormalReduct (first ∷ second ∷ []) (pair_of 0 1)
@@ -60,7 +60,7 @@ difference_is_normal = record {
   };
 }
 
-third_placed : IsPlaced column_one 3 (first ∷ second ∷ []) (pair_of 0 1) 2 third
+pub third_placed : IsPlaced column_one 3 (first ∷ second ∷ []) (pair_of 0 1) 2 third
 unfolding negate positive_part negative_part difference_is_normal
 third_placed = record {
   at_end = refl;
@@ -70,11 +70,11 @@ third_placed = record {
   sign = inr refl;
 }
 
-to_zero : Reduct (first ∷ second ∷ third ∷ []) (subtract third first) (zeros 4)
+pub to_zero : Reduct (first ∷ second ∷ third ∷ []) (subtract third first) (zeros 4)
 unfolding divides subtract add combine scale positive_part negative_part negate
 to_zero = go (record { move = second; member = (1, omega arith, refl); times = 1; some = omega arith; taken_off = inr (divides_true _ _ refl, refl) }) here
 
-disjoint : AreDisjoint (lead second) (lead third)
+pub disjoint : AreDisjoint (lead second) (lead third)
 unfolding positive_part
 disjoint zero = inl refl
 disjoint (suc zero) = inl refl
@@ -82,21 +82,21 @@ disjoint (suc (suc zero)) = inr refl
 disjoint (suc (suc (suc zero))) = inl refl
 disjoint (suc (suc (suc (suc c)))) = inl refl
 
-placing_next : IsNext 4 column_one 3 [] (first ∷ second ∷ []) placing (first ∷ second ∷ third ∷ [])
+pub placing_next : IsNext 4 column_one 3 [] (first ∷ second ∷ []) placing (first ∷ second ∷ third ∷ [])
 placing_next = record {
   of_moves = record { ordered = omega arith; within = omega arith };
   unsettled = none_settled (pair_of 0 1);
   settled = (third, third_placed, refl);
 }
 
-reducing_next : IsNext 4 column_one 3 (placing ∷ []) (first ∷ second ∷ third ∷ []) reducing (first ∷ second ∷ third ∷ [])
+pub reducing_next : IsNext 4 column_one 3 (placing ∷ []) (first ∷ second ∷ third ∷ []) reducing (first ∷ second ∷ third ∷ [])
 reducing_next = record {
   of_moves = record { ordered = omega arith; within = omega arith };
   unsettled = unsettled_more placing [] (pair_of 0 2) (λ e. let f : 1 ≡ 2 = ap (λ (p : Pair). p.second) e in omega arith) (none_settled (pair_of 0 2));
   settled = (to_zero, refl);
 }
 
-skipping_next : IsNext 4 column_one 3 (placing ∷ reducing ∷ []) (first ∷ second ∷ third ∷ []) skipping (first ∷ second ∷ third ∷ [])
+pub skipping_next : IsNext 4 column_one 3 (placing ∷ reducing ∷ []) (first ∷ second ∷ third ∷ []) skipping (first ∷ second ∷ third ∷ [])
 skipping_next = record {
   of_moves = record { ordered = omega arith; within = omega arith };
   unsettled = unsettled_more placing (reducing ∷ []) (pair_of 1 2) (λ e. let f : 0 ≡ 1 = ap (λ (p : Pair). p.first) e in omega arith)

@@ -32,3 +32,4 @@ pub mod LegalEvents
 pub mod EndedStates
 pub mod JournalExamples
 pub mod OverflowExamples
+pub mod EventExamples

@@ -13,7 +13,8 @@ ghost use Rattle.mk_model.specs.ReducedBases.{IsLeast, IsReducedBasis, IsStarMov
 ghost use Rattle.mk_model.specs.CoreStates.{Settle, CoreState, pair_of, settle, start_of, stop_at, new_state, phase_state};
 ghost use Rattle.mk_model.specs.CoreStates.Way.{Coprime, Zero, Place};
 ghost use Rattle.mk_model.specs.Overflows.{IsGenuineOverflow};
-ghost use Rattle.mk_model.specs.Events.{Event, Happens, HappenInTurn};
+ghost use Rattle.mk_model.specs.Events.{Event, Happens, HappenInTurn, with_claim};
+ghost use Rattle.mk_model.specs.Events.Event.{Claims, Settles};
 ghost use Rattle.mk_model.specs.Legal.{IsNext, Replays, IsLegal, IsEnded};
 
 /// A lattice of zero rows has no move, and the answer has none.
@@ -226,4 +227,16 @@ pub fn overflow_examples()
         ∷ (pos 5 ∷ neg_ℤ (pos 5) ∷ pos 0 ∷ pos 0 ∷ []) ∷ [])
         (stop_at (pair_of 0 1) (Some 2) (Some (pos 5 ∷ pos 9223372036854775803 ∷ neg_ℤ (pos 9223372036854775807) ∷ neg_ℤ (pos 1) ∷ []))
         1 (pos 9223372036854775803) (pos 1) (neg_ℤ (pos 5))) }
+{}
+
+/// The same completion by events, with two workers, until it is ended; and while worker 0 has the one pair that there is
+/// at first, worker 1 can't claim any.
+pub fn event_examples()
+    ensures until_ended { (after : CoreState) × HappenInTurn 4 (1 ∷ 3 ∷ 2 ∷ 0 ∷ [])
+        (new_state ((pos 1 ∷ neg_ℤ (pos 2) ∷ pos 1 ∷ pos 0 ∷ []) ∷ (pos 0 ∷ neg_ℤ (pos 1) ∷ pos 2 ∷ neg_ℤ (pos 1) ∷ []) ∷ []) 3 3 2)
+        (Claims 0 ∷ Settles 0 (Place 2) ∷ Claims 0 ∷ Settles 0 Zero ∷ Claims 0 ∷ Settles 0 Coprime ∷ []) after × IsEnded after }
+    ensures none_left { (after : CoreState) → ¬ (Happens 4 (1 ∷ 3 ∷ 2 ∷ 0 ∷ [])
+        (with_claim (new_state ((pos 1 ∷ neg_ℤ (pos 2) ∷ pos 1 ∷ pos 0 ∷ []) ∷ (pos 0 ∷ neg_ℤ (pos 1) ∷ pos 2 ∷ neg_ℤ (pos 1) ∷ []) ∷ []) 3 3 2)
+        0 (pair_of 0 1))
+        (Claims 1) after) }
 {}

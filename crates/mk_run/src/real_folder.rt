@@ -1,6 +1,6 @@
 //! A folder over real files and the two standard streams.
 
-ghost use Rattle.std.specs.Prelude.{◌≡◌, None, false, is_some, IfSome, length};
+ghost use Rattle.std.specs.Prelude.{◌≡◌, None, false, IfSome, length};
 
 use crate::faults::Faults;
 use crate::folder::{Channel, DeskFault, Folder, Found};
@@ -33,11 +33,10 @@ struct Making<F> {
 
 impl<'a, R: Files + Print + Eprint> RealFolder<'a, R> {
     /// No file is being read or made.
+    /// A folder over the files and streams that the runtime reaches. No file is being made, and nothing has failed.
     pub fn new(alloc: Global, rt: &'a R) -> RealFolder<'a, R>
-        ensures making { is_some result.making ≡ false }
-        ensures found { result.found ≡ None }
-        ensures given { result.given ≡ 0 }
-        ensures faults { result.faults.count ≡ 0 }
+        ensures { ⟦<RealFolder<'a, R> as Folder>⟧.state result
+            ≡ record { making = false; found = None; given = 0; faults = 0 } }
     {
         RealFolder {
             alloc,

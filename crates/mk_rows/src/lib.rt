@@ -1,0 +1,5 @@
+//! Whole runs over a folder in memory, each with what it must give. The tests are all there is.
+#![tactic(auto)]
+
+#[cfg(test)]
+mod tests;

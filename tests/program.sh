@@ -1,0 +1,200 @@
+#!/usr/bin/env bash
+# Runs the built program over real files and compares its status, what it says and the files that it leaves.
+# Usage: tests/program.sh PROGRAM
+
+[ $# -eq 1 ] && [ -f "$1" ] && [ -x "$1" ] || { echo "usage: $0 PROGRAM" >&2; exit 2; }
+program=$(realpath "$1")
+work=$(mktemp -d) || exit 2
+trap 'rm -rf "$work"' EXIT
+folder=$work/folder
+errors=$work/err
+limit=
+passed=0
+failed=0
+
+usage='usage: markov [--workers N] [--budget N] PROJECT or markov [--workers N] [--budget N] --model RxC[xD]'
+no_table='markov: P.lat: not a table'
+
+# An empty folder for the next case.
+fresh() {
+    rm -rf "$folder"
+    mkdir "$folder"
+    wanted=()
+}
+
+# A file that the case starts with, and that stays as it is. The text is one of printf.
+given() {
+    printf "$2" >"$folder/$1"
+    stays "$1"
+}
+
+# A file or folder of the case that stays as it is.
+stays() {
+    rm -rf "$work/want.$1"
+    cp -r "$folder/$1" "$work/want.$1"
+    wanted+=("$1")
+}
+
+# A file that the case makes.
+made() {
+    printf "$2" >"$work/want.$1"
+    wanted+=("$1")
+}
+
+# Runs the program on the words behind the first three: the name of the case, the status, and the line on standard
+# error, or nothing. Standard error goes to $errors, and no file grows past $limit KiB.
+ends() {
+    local name=$1 status=$2 line=$3 faults=() got file
+    shift 3
+    if [ -n "$line" ]; then printf '%s\n' "$line"; fi >"$work/err.want"
+    : >"$work/err"
+    (
+        cd "$folder" || exit 9
+        if [ -n "$limit" ]; then
+            trap '' XFSZ
+            ulimit -f "$limit"
+        fi
+        exec "$program" "$@"
+    ) >"$work/out" 2>"$errors" </dev/null
+    got=$?
+    [ "$got" -eq "$status" ] || faults+=("status $got for $status")
+    [ ! -s "$work/out" ] || faults+=("something on standard output")
+    cmp -s "$work/err" "$work/err.want" || faults+=("other text on standard error: $(cat "$work/err")")
+    for file in "${wanted[@]}"; do
+        diff -r "$folder/$file" "$work/want.$file" >/dev/null 2>&1 || faults+=("$file is other")
+    done
+    got=$(find "$folder" -mindepth 1 -maxdepth 1 | wc -l)
+    [ "$got" -eq ${#wanted[@]} ] || faults+=("$got files for ${#wanted[@]}: $(ls -A "$folder" | tr '\n' ' ')")
+    if [ ${#faults[@]} -eq 0 ]; then
+        passed=$((passed + 1))
+    else
+        failed=$((failed + 1))
+        printf 'FAILED %s: %s\n' "$name" "$(printf '%s; ' "${faults[@]}")"
+    fi
+}
+
+# A lattice that has this answer, without and over an older one.
+answers() {
+    local older
+    for older in '' '7 7\nan older answer\n'; do
+        fresh
+        given P.lat "$1"
+        given Q.mar 'other\n'
+        [ -z "$older" ] || printf "$older" >"$folder/P.mar"
+        made P.mar "$2"
+        ends "answer to $1" 0 '' P
+    done
+}
+
+# A lattice that is refused with this line, without and over an older answer.
+refuses() {
+    fresh
+    given P.lat "$1"
+    ends "no answer to $1" 2 "$2" P
+    given P.mar '7 7\nan older answer\n'
+    ends "an older answer stays at $1" 2 "$2" P
+}
+
+# Words that stand for no project.
+faulty() {
+    fresh
+    given P.lat '1 2\n2 -2\n'
+    ends "faulty words ($*)" 1 "$usage" "$@"
+}
+
+# Words behind the first that stand for the project that it names.
+names() {
+    local project=$1
+    shift
+    fresh
+    given "$project.lat" '1 2\n-2 2\n'
+    made "$project.mar" '1 2\n2 -2\n'
+    ends "words of a project ($*)" 0 '' "$@"
+}
+
+answers '0 4\n' '0 4\n'
+answers '1 3\n0 0 0\n' '0 3\n'
+answers '0 0\n' '0 0\n'
+answers '1 2\n2 -2\n' '1 2\n2 -2\n'
+answers '1 8\n-1 1 1 -1 1 -1 -1 1\n' '1 8\n1 -1 -1 1 -1 1 1 -1\n'
+answers '1 2\n9223372036854775807 -9223372036854775807\n' '1 2\n9223372036854775807 -9223372036854775807\n'
+
+refuses '1 2\n1 1\n' 'markov: P: no positive grading found'
+refuses '1 2\n9223372036854775808 -1\n' "$no_table"
+refuses '1 2\n1 -9223372036854775808\n' "$no_table"
+refuses '2 4\n1 -2 1 0\n0 1 -2\n' "$no_table"
+refuses '2 4\n1 -2 1 0\n0 1 -2 1\nx\n' "$no_table"
+refuses '1 513\n0\n' "$no_table"
+refuses '2 4\n1 -2 1 0\n0 1 -2 1\n' 'markov: P.lat: more than one nonzero row'
+
+fresh
+ends 'no P.lat' 2 'markov: P.lat: not there' P
+given P.mar '7 7\nan older answer\n'
+ends 'no P.lat under an older answer' 2 'markov: P.lat: not there' P
+
+faulty
+faulty P Q
+faulty ''
+faulty --help
+faulty -x
+faulty -x P
+faulty --
+faulty -- ''
+faulty -- P Q
+faulty $'P\xff'
+
+names P P
+names P P --
+names P -- P
+names -P -- -P
+names - -
+
+# A file of 64 MiB, and one that is a byte longer.
+fresh
+{ printf '0 4'; head -c 67108861 /dev/zero | tr '\0' ' '; } >"$folder/P.lat"
+stays P.lat
+made P.mar '0 4\n'
+ends '67108864 bytes' 0 '' P
+fresh
+{ printf '0 4'; head -c 67108862 /dev/zero | tr '\0' ' '; } >"$folder/P.lat"
+stays P.lat
+ends '67108865 bytes' 2 'markov: P.lat: more than 67108864 bytes' P
+
+# Files that fail: a folder that is to be read, one that the answer is to replace, and one where the answer is made.
+fresh
+mkdir "$folder/P.lat"
+stays P.lat
+ends 'P.lat is a folder' 3 'markov: a file or stream failed' P
+fresh
+given P.lat '1 2\n2 -2\n'
+mkdir "$folder/P.mar"
+printf 'kept\n' >"$folder/P.mar/file"
+stays P.mar
+ends 'P.mar is a folder' 3 'markov: a file or stream failed' P
+fresh
+given P.lat '1 2\n2 -2\n'
+mkdir "$folder/P.mar.part"
+printf 'kept\n' >"$folder/P.mar.part/file"
+stays P.mar.part
+ends 'P.mar.part is a folder' 3 'markov: a file or stream failed' P
+
+# An answer of more than 1024 bytes, of which the first 1024 are written.
+fresh
+given P.lat "1 512\n$(yes '1000 -1000' | head -n 256)\n"
+given P.mar '7 7\nan older answer\n'
+limit=1
+ends 'the answer finds no room' 3 'markov: a file or stream failed' P
+limit=
+
+# Standard error that takes nothing.
+errors=/dev/full
+fresh
+ends 'faulty words, and no line' 1 '' P Q
+ends 'no P.lat, and no line' 2 '' P
+mkdir "$folder/P.lat"
+stays P.lat
+ends 'P.lat is a folder, and no line' 3 '' P
+errors=$work/err
+
+echo "$passed passed, $failed failed"
+[ "$failed" -eq 0 ]

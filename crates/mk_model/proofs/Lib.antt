@@ -33,3 +33,8 @@ pub mod EndedStates
 pub mod JournalExamples
 pub mod OverflowExamples
 pub mod EventExamples
+pub mod OrderTests
+pub mod VectorExamples
+pub mod WalkExamples
+pub mod AnswerExamples
+pub mod TableExamples

@@ -1,20 +1,17 @@
 //! The laws of the definitions. Each is the contract of a function that takes nothing and gives nothing.
 
-ghost use Rattle.std.specs.Prelude.{◌≡◌, ◌⊎◌, ℕ, ℤ, List, [], ◌∷◌, ◌++◌, length, ◌≤◌, None, Some, Bool, IsTrue, All, Contains, pos, neg_ℤ, ◌≤ℤ◌, ◌↔◌, negsuc};
+ghost use Rattle.std.specs.Prelude.{◌≡◌, ◌⊎◌, ℕ, ℤ, List, [], ◌∷◌, ◌++◌, length, ◌≤◌, Bool, IsTrue, All, Contains, pos, ◌≤ℤ◌, ◌↔◌};
 ghost use Rattle.mk_model.specs.Vectors.{negate, entry, zeros, add, subtract, negative_part, IsPoint};
-ghost use Rattle.mk_model.specs.Lattices.{IsGrading, nonzero_rows, InLattice, ones};
+ghost use Rattle.mk_model.specs.Lattices.{IsGrading, nonzero_rows, InLattice};
 ghost use Rattle.mk_model.specs.Walks.{Joined, Members};
-ghost use Rattle.mk_model.specs.Orders.{standard, IsOriented, lead, IsBelow, ComesBefore};
+ghost use Rattle.mk_model.specs.Orders.{standard, IsOriented, lead};
 ghost use Rattle.mk_model.specs.Bases.{IsTheAnswer, IsAnswer, IsEssential, IsMarkov, IsMinimal};
 ghost use Rattle.mk_model.specs.Reductions.{lcm, Divides, Meet, Reduct};
 ghost use Rattle.mk_model.specs.Pairs.{AreOrientedMoves, JoinedBelow, EveryPairJoined, AreDisjoint};
 ghost use Rattle.mk_model.specs.Saturation.{IsSupported, without_column, ConnectedUpTo, drop_redundant};
 ghost use Rattle.mk_model.specs.ReducedBases.{IsLeast, IsReducedBasis, IsStarMove};
-ghost use Rattle.mk_model.specs.CoreStates.{Settle, CoreState, pair_of, settle, start_of, stop_at, new_state, phase_state};
-ghost use Rattle.mk_model.specs.CoreStates.Way.{Coprime, Zero, Place};
-ghost use Rattle.mk_model.specs.Overflows.{IsGenuineOverflow};
-ghost use Rattle.mk_model.specs.Events.{Event, Happens, HappenInTurn, with_claim};
-ghost use Rattle.mk_model.specs.Events.Event.{Claims, Settles};
+ghost use Rattle.mk_model.specs.CoreStates.{Settle, CoreState, start_of, new_state, phase_state};
+ghost use Rattle.mk_model.specs.Events.{Event, Happens, HappenInTurn};
 ghost use Rattle.mk_model.specs.Legal.{IsNext, Replays, IsLegal, IsEnded};
 
 /// A lattice of zero rows has no move, and the answer has none.
@@ -87,18 +84,6 @@ pub fn conn_free()
         ConnectedUpTo n rows columns moves → ConnectedUpTo n rows (without_column columns i) moves }
 {}
 
-/// On the twisted cubic `(1 -3 3 -1)` reduces to 0 by two moves that the standard list orients, and of the moves
-/// `(2 -2)`, `(1 -1)` and `(1 -1)` one is not redundant.
-pub fn reduction_examples()
-    ensures oriented { All (IsOriented (standard 4))
-        ((neg_ℤ (pos 1) ∷ pos 2 ∷ neg_ℤ (pos 1) ∷ pos 0 ∷ []) ∷ (pos 0 ∷ neg_ℤ (pos 1) ∷ pos 2 ∷ neg_ℤ (pos 1) ∷ []) ∷ []) }
-    ensures reduct { Reduct
-        ((neg_ℤ (pos 1) ∷ pos 2 ∷ neg_ℤ (pos 1) ∷ pos 0 ∷ []) ∷ (pos 0 ∷ neg_ℤ (pos 1) ∷ pos 2 ∷ neg_ℤ (pos 1) ∷ []) ∷ [])
-        (pos 1 ∷ neg_ℤ (pos 3) ∷ pos 3 ∷ neg_ℤ (pos 1) ∷ []) (zeros 4) }
-    ensures redundant { drop_redundant ((pos 2 ∷ neg_ℤ (pos 2) ∷ []) ∷ (pos 1 ∷ neg_ℤ (pos 1) ∷ []) ∷ (pos 1 ∷ neg_ℤ (pos 1) ∷ []) ∷ [])
-        ≡ (pos 1 ∷ neg_ℤ (pos 1) ∷ []) ∷ [] }
-{}
-
 /// The moves of an answer join all nonnegative vectors that differ by the lattice.
 pub fn essential_is_markov()
     ensures { (n : ℕ) (rows : List (List ℤ)) (w : List ℤ) (moves : List (List ℤ)) → IsGrading n rows w →
@@ -121,18 +106,6 @@ pub fn answer_is_unique()
 pub fn answer_has_the_essential_moves()
     ensures { (n : ℕ) (rows : List (List ℤ)) (w : List ℤ) (moves : List (List ℤ)) (m : List ℤ) →
         IsAnswer n rows w moves → Contains moves m ↔ IsEssential n rows w m }
-{}
-
-/// Vectors and moves in their order, from outside: of 3 columns, and of 3 by 3 independence.
-pub fn order_examples()
-    ensures points { IsBelow (standard 3) (pos 0 ∷ pos 0 ∷ pos 2 ∷ []) (pos 1 ∷ pos 1 ∷ pos 0 ∷ []) }
-    ensures of_three_columns { ComesBefore 3 (ones 3) (pos 0 ∷ pos 1 ∷ negsuc 0 ∷ []) (pos 1 ∷ pos 0 ∷ negsuc 0 ∷ []) }
-    ensures independence_first { ComesBefore 9 (ones 9)
-        (pos 0 ∷ pos 0 ∷ pos 0 ∷ pos 0 ∷ negsuc 0 ∷ pos 1 ∷ pos 0 ∷ pos 1 ∷ negsuc 0 ∷ [])
-        (pos 0 ∷ negsuc 0 ∷ pos 1 ∷ pos 0 ∷ pos 0 ∷ pos 0 ∷ pos 0 ∷ pos 1 ∷ negsuc 0 ∷ []) }
-    ensures independence_second { ComesBefore 9 (ones 9)
-        (pos 0 ∷ negsuc 0 ∷ pos 1 ∷ pos 0 ∷ pos 0 ∷ pos 0 ∷ pos 0 ∷ pos 1 ∷ negsuc 0 ∷ [])
-        (pos 0 ∷ pos 0 ∷ pos 0 ∷ negsuc 0 ∷ pos 0 ∷ pos 1 ∷ pos 1 ∷ pos 0 ∷ negsuc 0 ∷ []) }
 {}
 
 /// A lattice and a grading have at most one reduced basis.
@@ -199,44 +172,4 @@ pub fn ended_is_joined()
     ensures joined { (n : ℕ) (rows : List (List ℤ)) (w : List ℤ) (priority : List ℕ) (state : CoreState) →
         IsLegal n priority state → AreOrientedMoves n rows w priority (start_of state) → IsEnded state →
         EveryPairJoined n priority state.basis }
-{}
-
-/// Under the list of column 1 of 4 columns, the completion of `(1 -2 1 0)` and `(0 -1 2 -1)` places `(1 -1 -1 1)`. Its
-/// journal replays, and the same journal with its first two entries exchanged does not.
-pub fn journal_examples()
-    ensures in_order { Replays 4 (1 ∷ 3 ∷ 2 ∷ 0 ∷ []) 3 []
-        ((pos 1 ∷ neg_ℤ (pos 2) ∷ pos 1 ∷ pos 0 ∷ []) ∷ (pos 0 ∷ neg_ℤ (pos 1) ∷ pos 2 ∷ neg_ℤ (pos 1) ∷ []) ∷ [])
-        (settle 0 (pair_of 0 1) (Place 2) ∷ settle 0 (pair_of 0 2) Zero ∷ settle 0 (pair_of 1 2) Coprime ∷ [])
-        ((pos 1 ∷ neg_ℤ (pos 2) ∷ pos 1 ∷ pos 0 ∷ []) ∷ (pos 0 ∷ neg_ℤ (pos 1) ∷ pos 2 ∷ neg_ℤ (pos 1) ∷ [])
-        ∷ (pos 1 ∷ neg_ℤ (pos 1) ∷ neg_ℤ (pos 1) ∷ pos 1 ∷ []) ∷ []) }
-    ensures exchanged { ¬ (Replays 4 (1 ∷ 3 ∷ 2 ∷ 0 ∷ []) 3 []
-        ((pos 1 ∷ neg_ℤ (pos 2) ∷ pos 1 ∷ pos 0 ∷ []) ∷ (pos 0 ∷ neg_ℤ (pos 1) ∷ pos 2 ∷ neg_ℤ (pos 1) ∷ []) ∷ [])
-        (settle 0 (pair_of 0 2) Zero ∷ settle 0 (pair_of 0 1) (Place 2) ∷ settle 0 (pair_of 1 2) Coprime ∷ [])
-        ((pos 1 ∷ neg_ℤ (pos 2) ∷ pos 1 ∷ pos 0 ∷ []) ∷ (pos 0 ∷ neg_ℤ (pos 1) ∷ pos 2 ∷ neg_ℤ (pos 1) ∷ [])
-        ∷ (pos 1 ∷ neg_ℤ (pos 1) ∷ neg_ℤ (pos 1) ∷ pos 1 ∷ []) ∷ [])) }
-{}
-
-/// Entries that leave the range: 9223372036854775807 less -1, in the difference of a pair; and 9223372036854775803
-/// less -5, in a step of reduction.
-pub fn overflow_examples()
-    ensures difference { IsGenuineOverflow
-        ((neg_ℤ (pos 1) ∷ pos 1 ∷ []) ∷ (pos 9223372036854775807 ∷ neg_ℤ (pos 9223372036854775807) ∷ []) ∷ [])
-        (stop_at (pair_of 0 1) None None 0 (pos 9223372036854775807) (pos 1) (neg_ℤ (pos 1))) }
-    ensures step { IsGenuineOverflow
-        ((neg_ℤ (pos 5) ∷ pos 4 ∷ pos 0 ∷ pos 1 ∷ []) ∷ (pos 0 ∷ pos 9223372036854775807 ∷ neg_ℤ (pos 9223372036854775807) ∷ pos 0 ∷ [])
-        ∷ (pos 5 ∷ neg_ℤ (pos 5) ∷ pos 0 ∷ pos 0 ∷ []) ∷ [])
-        (stop_at (pair_of 0 1) (Some 2) (Some (pos 5 ∷ pos 9223372036854775803 ∷ neg_ℤ (pos 9223372036854775807) ∷ neg_ℤ (pos 1) ∷ []))
-        1 (pos 9223372036854775803) (pos 1) (neg_ℤ (pos 5))) }
-{}
-
-/// The same completion by events, with two workers, until it is ended; and while worker 0 has the one pair that there is
-/// at first, worker 1 can't claim any.
-pub fn event_examples()
-    ensures until_ended { (after : CoreState) × HappenInTurn 4 (1 ∷ 3 ∷ 2 ∷ 0 ∷ [])
-        (new_state ((pos 1 ∷ neg_ℤ (pos 2) ∷ pos 1 ∷ pos 0 ∷ []) ∷ (pos 0 ∷ neg_ℤ (pos 1) ∷ pos 2 ∷ neg_ℤ (pos 1) ∷ []) ∷ []) 3 3 2)
-        (Claims 0 ∷ Settles 0 (Place 2) ∷ Claims 0 ∷ Settles 0 Zero ∷ Claims 0 ∷ Settles 0 Coprime ∷ []) after × IsEnded after }
-    ensures none_left { (after : CoreState) → ¬ (Happens 4 (1 ∷ 3 ∷ 2 ∷ 0 ∷ [])
-        (with_claim (new_state ((pos 1 ∷ neg_ℤ (pos 2) ∷ pos 1 ∷ pos 0 ∷ []) ∷ (pos 0 ∷ neg_ℤ (pos 1) ∷ pos 2 ∷ neg_ℤ (pos 1) ∷ []) ∷ []) 3 3 2)
-        0 (pair_of 0 1))
-        (Claims 1) after) }
 {}

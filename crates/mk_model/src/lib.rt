@@ -1,18 +1,22 @@
 //! The definitions that the other crates are proved against, over plain lists of integers, and their laws.
 //!
-//! The definitions stand in `specs/`, and `docs/DEFINITIONS.md` says each in plain words. A law is the contract of a
-//! function without parameters.
+//! The definitions stand in `specs/`, and `docs/DEFINITIONS.md` says each in plain words. A law or a worked example is
+//! the contract of a function without parameters.
 #![tactic(auto)]
 
+mod examples;
 mod laws;
 
+pub use examples::{
+    answer_examples, event_examples, journal_examples, order_examples, overflow_examples,
+    reduction_examples, table_examples, text_examples, vector_examples, walk_examples,
+};
 pub use laws::{
     answer_has_the_essential_moves, answer_is_unique, answer_of_one_row, answer_without_rows,
     confluence_from_pairs, conn_drop, conn_free, ended_is_joined, essential_is_markov,
-    essential_is_minimal, essential_moves_are_stars, event_examples, events_keep_legal, join_chain,
-    join_translate, journal_examples, order_examples, overflow_examples, phase_is_legal,
-    reached_is_legal, reduced_basis_divides, reduced_basis_has_the_essential_moves,
-    reduced_basis_is_markov, reduced_basis_is_unique, reduction_examples, replay_goes_on,
+    essential_is_minimal, essential_moves_are_stars, events_keep_legal, join_chain, join_translate,
+    phase_is_legal, reached_is_legal, reduced_basis_divides, reduced_basis_has_the_essential_moves,
+    reduced_basis_is_markov, reduced_basis_is_unique, replay_goes_on,
 };
 use std::alloc::{AllocError, AllocFailed};
 

@@ -6,6 +6,7 @@
 
 mod examples;
 mod laws;
+mod plain;
 
 pub use examples::{
     answer_examples, event_examples, journal_examples, order_examples, overflow_examples,
@@ -18,6 +19,7 @@ pub use laws::{
     phase_is_legal, reached_is_legal, reduced_basis_divides, reduced_basis_has_the_essential_moves,
     reduced_basis_is_markov, reduced_basis_is_unique, replay_goes_on,
 };
+pub use plain::{divides, is_below};
 use std::alloc::{AllocError, AllocFailed};
 
 /// An entry of a lattice or of a move: from `-ENTRY_MAX` to `ENTRY_MAX`.
@@ -41,3 +43,6 @@ impl<T: Drop> From<AllocFailed<T>> for NoMemory {
         NoMemory
     }
 }
+
+#[cfg(test)]
+mod tests;

@@ -2,11 +2,11 @@
 
 ghost use Rattle.std.specs.Prelude.{◌≡◌, [], ◌∷◌, ◌++◌, None, Some, All, AllPairs, pos, neg_ℤ, codes};
 ghost use Rattle.mk_model.specs.Vectors.{zeros, positive_part, negative_part, weight};
-ghost use Rattle.mk_model.specs.Lattices.{InLattice, IsGrading, IsChosenGrading, ones};
+ghost use Rattle.mk_model.specs.Lattices.{InLattice, IsGrading, IsChosenGrading, nonzero_rows, ones};
 ghost use Rattle.mk_model.specs.Walks.{Joined, Members};
 ghost use Rattle.mk_model.specs.Orders.{standard, IsOriented, IsBelow, ComesBefore};
 ghost use Rattle.mk_model.specs.Bases.{IsMarkov, AreApart, IsTheAnswer};
-ghost use Rattle.mk_model.specs.Tables.{tokens, Grid, Limits, ReadsTable};
+ghost use Rattle.mk_model.specs.Tables.{tokens, Grid, rows_of, Limits, ReadsTable};
 ghost use Rattle.mk_model.specs.Texts.{move_text};
 ghost use Rattle.mk_model.specs.Reductions.{Reduct};
 ghost use Rattle.mk_model.specs.Saturation.{drop_redundant};
@@ -17,7 +17,7 @@ ghost use Rattle.mk_model.specs.Events.{Happens, HappenInTurn, with_claim};
 ghost use Rattle.mk_model.specs.Events.Event.{Claims, Settles};
 ghost use Rattle.mk_model.specs.Legal.{Replays, IsEnded};
 
-/// Parts, weights, vectors of a lattice, and gradings.
+/// Parts, weights, a vector of a lattice, rows that are not zero, and gradings.
 pub fn vector_examples()
     ensures positive { positive_part (pos 1 ∷ neg_ℤ (pos 2) ∷ pos 1 ∷ pos 0 ∷ []) ≡ (pos 1 ∷ pos 0 ∷ pos 1 ∷ pos 0 ∷ []) }
     ensures negative { negative_part (pos 1 ∷ neg_ℤ (pos 2) ∷ pos 1 ∷ pos 0 ∷ []) ≡ (pos 0 ∷ pos 2 ∷ pos 0 ∷ pos 0 ∷ []) }
@@ -25,6 +25,7 @@ pub fn vector_examples()
     ensures weight_five { weight (pos 3 ∷ pos 4 ∷ pos 5 ∷ []) (pos 3 ∷ neg_ℤ (pos 1) ∷ pos 0 ∷ []) ≡ pos 5 }
     ensures in_lattice { InLattice 3 ((pos 1 ∷ neg_ℤ (pos 1) ∷ pos 0 ∷ []) ∷ (pos 0 ∷ pos 1 ∷ neg_ℤ (pos 1) ∷ []) ∷ [])
         (pos 1 ∷ pos 0 ∷ neg_ℤ (pos 1) ∷ []) }
+    ensures nonzero { nonzero_rows ((pos 0 ∷ pos 0 ∷ []) ∷ (pos 1 ∷ neg_ℤ (pos 1) ∷ []) ∷ []) ≡ (pos 1 ∷ neg_ℤ (pos 1) ∷ []) ∷ [] }
     ensures chosen { IsChosenGrading 4
         ((pos 1 ∷ neg_ℤ (pos 2) ∷ pos 1 ∷ pos 0 ∷ []) ∷ (pos 0 ∷ pos 1 ∷ neg_ℤ (pos 2) ∷ pos 1 ∷ []) ∷ []) (ones 4) }
     ensures grading { IsGrading 3
@@ -77,6 +78,8 @@ pub fn table_examples()
     ensures table { ReadsTable (codes " +2" ++ 9 ∷ codes "2" ++ 13 ∷ 10 ∷ codes "01 -1 0 0")
         (record { rows = 4096; columns = 512; least = neg_ℤ (pos 9223372036854775807); most = pos 9223372036854775807 })
         (record { rows = 2; columns = 2; entries = (pos 1 ∷ neg_ℤ (pos 1) ∷ pos 0 ∷ pos 0 ∷ []) }) }
+    ensures rows { rows_of (record { rows = 2; columns = 2; entries = (pos 1 ∷ neg_ℤ (pos 1) ∷ pos 0 ∷ pos 0 ∷ []) })
+        ≡ (pos 1 ∷ neg_ℤ (pos 1) ∷ []) ∷ (pos 0 ∷ pos 0 ∷ []) ∷ [] }
     ensures nothing { (limits : Limits) (grid : Grid) → ¬ (ReadsTable [] limits grid) }
     ensures minus { (limits : Limits) (grid : Grid) → ¬ (ReadsTable (codes "-1 2") limits grid) }
 {}

@@ -5,4 +5,4 @@ use Rattle.mk_model.proofs.examples.vector_examples.Goals as goal
 
 pub returns : goal.returns
 unfolding negate positive_part negative_part weight
-returns c = record { positive = refl; negative = refl; weight_zero = refl; weight_five = refl; in_lattice = in_lattice; chosen = chosen; grading = grading }
+returns c = record { positive = refl; negative = refl; weight_zero = refl; weight_five = refl; in_lattice = in_lattice; nonzero = refl; chosen = chosen; grading = grading }

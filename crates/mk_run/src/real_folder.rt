@@ -5,13 +5,14 @@ ghost use Rattle.std.specs.Prelude.{◌≡◌, None, false, IfSome, length};
 use crate::faults::Faults;
 use crate::folder::{Channel, DeskFault, Folder, Found};
 use std::alloc::Global;
-use std::fs;
+use std::fs::{self, File};
 use std::io::{Eprint, ErrorKind, Print, Read, Write};
 use std::rt::Files;
 
 /// Real files, by their paths, and the two standard streams. It doesn't tell what they hold.
 ///
-/// A file that is being made stands beside its place, under its name with `.part` behind it, and takes its name at the end.
+/// A file that is being made stands beside its place, under its name with `.part` behind it, and takes its name at the
+/// end. Where a file has that name already it is left as it is, and none is made.
 #[derive(Drop)]
 pub struct RealFolder<'a, R: Files> {
     alloc: Global,
@@ -32,7 +33,6 @@ struct Making<F> {
 }
 
 impl<'a, R: Files + Print + Eprint> RealFolder<'a, R> {
-    /// No file is being read or made.
     /// A folder over the files and streams that the runtime reaches. No file is being made, and nothing has failed.
     pub fn new(alloc: Global, rt: &'a R) -> RealFolder<'a, R>
         ensures { ⟦<RealFolder<'a, R> as Folder>⟧.state result
@@ -96,7 +96,7 @@ impl<R: Files + Print + Eprint> Folder for RealFolder<'_, R> {
     fn start_write(&mut self, name: &str) -> Result<(), DeskFault> {
         let part = format!(in self.alloc; "{name}.part")?;
         let name = String::from_str(self.alloc, name)?;
-        match fs::create(self.rt, &part) {
+        match File::create_new(self.rt, &part) {
             Ok(file) => {
                 self.making = Some(Making { file, name, part });
                 Ok(())

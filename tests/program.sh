@@ -177,6 +177,10 @@ mkdir "$folder/P.mar.part"
 printf 'kept\n' >"$folder/P.mar.part/file"
 stays P.mar.part
 ends 'P.mar.part is a folder' 3 'markov: a file or stream failed' P
+fresh
+given P.lat '1 2\n2 -2\n'
+given P.mar.part 'mine\n'
+ends 'P.mar.part is a file' 3 'markov: a file or stream failed' P
 
 # An answer of more than 1024 bytes, of which the first 1024 are written.
 fresh

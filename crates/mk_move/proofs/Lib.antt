@@ -1,3 +1,9 @@
 pub mod Weights
 pub mod StandardLists
+pub mod FirstLists
 pub mod Parts
+pub mod Divisions
+pub mod Readings
+pub mod Comparisons
+pub mod Orientations
+pub mod Differences

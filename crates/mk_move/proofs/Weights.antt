@@ -24,7 +24,7 @@ pub abs_bounds : (z : ℤ) (n : ℕ) → unsigned_abs z ≤ n → (neg_ℤ (pos 
 abs_bounds (pos m) n h = (omega (arith, ints), omega (arith, ints))
 abs_bounds (negsuc m) n h = (omega (arith, ints), omega (arith, ints))
 
-abs_from_bounds : (z : ℤ) (n : ℕ) → neg_ℤ (pos n) ≤ℤ z → z ≤ℤ pos n → unsigned_abs z ≤ n
+pub abs_from_bounds : (z : ℤ) (n : ℕ) → neg_ℤ (pos n) ≤ℤ z → z ≤ℤ pos n → unsigned_abs z ≤ n
 abs_from_bounds (pos m) n h l = omega (arith, ints)
 abs_from_bounds (negsuc m) n h l = omega (arith, ints)
 

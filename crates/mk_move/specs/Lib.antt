@@ -1,3 +1,6 @@
 pub mod Gradings
 pub mod Priorities
 pub mod Moves
+pub mod Sides
+pub mod Steps
+pub mod MoveLists

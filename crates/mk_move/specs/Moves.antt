@@ -1,9 +1,9 @@
 -- What a move is seen as, and what reading one from a row gives.
-use Rattle.std.specs.Prelude.{◌≡◌, ◌≢◌, ◌⊎◌, ◌≤◌, ℕ, List, length, All, Option, Some, None, Result, Ok, Err, ℤ, pos}
+use Rattle.std.specs.Prelude.{◌≡◌, ◌≢◌, ◌⊎◌, ◌≤◌, ℕ, List, length, All, Option, Some, None, Result, Ok, Err, ℤ, pos, ◌<ℤ◌}
 use Rattle.std.specs.Prelude.{[], ◌∷◌, if◌then◌else◌}
 use Rattle.std.specs.Ordering.{int_eq}
 use Rattle.mk_model.specs.Vectors.{entry, zeros, negate, weight, positive_part, IsEntry}
-use Rattle.mk_model.specs.Orders.{IsOriented}
+use Rattle.mk_model.specs.Orders.{IsOriented, IsBelow, standard, lead, tail}
 use Rattle.mk_move.specs.declared.moves.MoveFault.{MoveFault}
 use Rattle.mk_move.specs.declared.moves.MoveFault.TheVariants.{Memory, NotGraded}
 
@@ -40,3 +40,15 @@ ReadsRow row w p (Err (NotGraded value)) = (value ≡ weight w row) × (value �
 abbrev pub first_along : List ℕ → List ℤ → ℤ
 first_along [] row = pos 0
 first_along (c ∷ columns) row = if int_eq (entry row c) (pos 0) then first_along columns row else entry row c
+
+-- the product with the grading is 0, and the weight is that of the lead
+pub record IsGraded (w : List ℤ) (m : Weighed) : Type 0 where
+  pub product : weight w m.entries ≡ pos 0
+  pub weight : m.weight ≡ weight w (positive_part m.entries)
+
+-- the moves in their order, by the weights that they have
+abbrev pub IsBefore : ℕ → Weighed → Weighed → Type 0
+IsBefore n a b =
+    (a.weight <ℤ b.weight)
+    ⊎ ((a.weight ≡ b.weight) × (IsBelow (standard n) (lead a.entries) (lead b.entries)
+    ⊎ ((lead a.entries ≡ lead b.entries) × IsBelow (standard n) (tail a.entries) (tail b.entries))))

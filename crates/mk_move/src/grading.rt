@@ -1,8 +1,8 @@
-ghost use Rattle.std.specs.Prelude.{◌≡◌, ◌≤◌, length, IfOk, IfErr, All};
-ghost use Rattle.mk_model.specs.Vectors.{weight, positive_part, IsEntry};
-ghost use Rattle.mk_move.specs.Gradings.{AreWeights, IsRefused};
+ghost use Rattle.std.specs.Prelude.{◌≡◌, ◌≤◌, ◌<◌, length, IfOk, IfErr, All};
+ghost use Rattle.mk_model.specs.Vectors.{entry, weight, positive_part, IsEntry};
+ghost use Rattle.mk_move.specs.Gradings.{IsWeight, AreWeights, IsRefused};
 
-use mk_model::Entry;
+use mk_model::{Entry, NoMemory};
 use std::alloc::{AllocError, Global};
 use std::marker::Model;
 
@@ -71,6 +71,25 @@ impl Grading {
         ensures kept { AreWeights self.now }
     {
         self.weights.len() as u32
+    }
+
+    /// A copy of it.
+    pub fn try_copy(&self) -> Result<Grading, NoMemory>
+        ensures { IfOk result (λ copy. copy ≡ self.now) }
+    {
+        let alloc = *self.weights.allocator();
+        Ok(Grading {
+            weights: Vec::from_slice(alloc, &self.weights)?,
+        })
+    }
+
+    /// The weight of a column: from 1 to 2147483647.
+    pub fn weight_at(&self, column: u32) -> i64
+        requires { column < length self.now }
+        ensures value { result ≡ entry self.now column }
+        ensures range { IsWeight result }
+    {
+        self.weights[column as usize]
     }
 
     /// The product with a row of as many columns.

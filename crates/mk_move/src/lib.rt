@@ -1,13 +1,26 @@
-//! Moves of a lattice, their gradings, and the priority lists that orient them.
+//! Moves of a lattice, their gradings, the priority lists that orient them, and what a completion does with them: steps,
+//! divisions and comparisons of leads, bases, and the trait of those that find a lead.
 #![tactic(auto)]
 
+mod basis;
+mod finder;
 mod grading;
+mod leads;
 mod moves;
+mod orders;
 mod priority;
+mod side;
+mod steps;
 
+pub use basis::{Basis, PushFault};
+pub use finder::Finder;
 pub use grading::{Grading, GradingFault};
+pub use leads::{coprime_leads, lead_divides, times_dividing};
 pub use moves::{Move, MoveFault};
+pub use orders::{compare_leads, move_order};
 pub use priority::Priority;
+pub use side::Side;
+pub use steps::{OverflowAt, StepFault, subtract_times};
 
 #[cfg(test)]
 mod tests;

@@ -1,10 +1,10 @@
-ghost use Rattle.std.specs.Prelude.{◌≡◌, ◌<◌, length, map, IfOk, MatchOption, All};
+ghost use Rattle.std.specs.Prelude.{◌≡◌, ◌<◌, List, ℤ, length, map, IfOk, MatchOption, All};
 ghost use Rattle.mk_model.specs.Vectors.{IsEntry, entry, negate, zeros};
-ghost use Rattle.mk_move.specs.Moves.{IsKept, IsRowOriented, ReadsRow, first_along};
+ghost use Rattle.mk_move.specs.Moves.{IsKept, IsRowOriented, IsGraded, ReadsRow, first_along};
 
 use crate::grading::Grading;
 use crate::priority::Priority;
-use mk_model::Entry;
+use mk_model::{Entry, NoMemory};
 use smallvec::SmallVec;
 use std::alloc::{AllocError, AllocFailed, Global};
 use std::marker::Model;
@@ -30,7 +30,7 @@ impl From<AllocError> for MoveFault {
 /// How many entries lie in the move itself.
 const INLINE: usize = 16;
 
-type Entries = SmallVec<Entry, INLINE>;
+pub(crate) type Entries = SmallVec<Entry, INLINE>;
 
 /// A vector of a lattice that isn't zero, of at most 512 columns, with the weight of its lead.
 /// (Sturmfels, chapters 4 and 5: a binomial with its degree)
@@ -72,7 +72,46 @@ impl Move {
             return Ok(None);
         };
         let weight = grading.lead_weight(entries.as_slice());
-        Ok(Some(Move { entries, weight }))
+        Ok(Some(Move::of_entries(entries, weight)))
+    }
+
+    /// The move with these entries and this weight.
+    pub(crate) fn of_entries(entries: Entries, weight: i128) -> Move
+        requires { IsKept (record { entries = entries.items; weight = weight }) }
+        ensures entries { result.entries ≡ entries.items }
+        ensures weight { result.weight ≡ weight }
+    {
+        Move { entries, weight }
+    }
+
+    /// A copy of it.
+    pub fn try_copy(&self) -> Result<Move, NoMemory>
+        ensures { IfOk result (λ copy. copy ≡ self.now) }
+    {
+        let alloc = *self.entries.allocator();
+        let entries = SmallVec::from_slice(alloc, self.entries.as_slice())?;
+        Ok(Move::of_entries(entries, self.weight))
+    }
+
+    /// Turns it into its negative where it isn't oriented by the list, of as many columns. The weight stays: with a
+    /// grading that gives product 0 both parts have it.
+    pub fn orient(&mut self, priority: &Priority)
+        requires { length priority.now ≡ length self.old.entries }
+        ensures entries { IsRowOriented self.old.entries priority.now self.new.entries }
+        ensures weight { self.new.weight ≡ self.old.weight }
+        ensures graded { (w : List ℤ) → IsGraded w self.old → IsGraded w self.new }
+    {
+        if first_entry(self.entries.as_slice(), priority.as_slice()) > 0 {
+            negate_all(self.entries.as_mut_slice());
+        }
+    }
+
+    /// Its entries, column by column.
+    pub(crate) fn entries(&self) -> &[Entry]
+        ensures value { result.now ≡ self.now.entries }
+        ensures kept { IsKept self.now }
+    {
+        self.entries.as_slice()
     }
 
     /// How many columns it has.
@@ -144,4 +183,14 @@ fn negated(alloc: Global, row: &[Entry]) -> Result<Entries, AllocError>
         entries.push(-*entry)?;
     }
     Ok(entries)
+}
+
+/// Turns a row into its negative.
+fn negate_all(row: &mut [Entry])
+    requires { All IsEntry row.old }
+    ensures { row.new ≡ negate row.old }
+{
+    for entry in row.iter_mut() {
+        *entry = -*entry;
+    }
 }

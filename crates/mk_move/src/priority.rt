@@ -1,6 +1,6 @@
-ghost use Rattle.std.specs.Prelude.{◌≡◌, length, IfOk};
+ghost use Rattle.std.specs.Prelude.{◌≡◌, ◌<◌, ◌∷◌, length, IfOk, slice_get};
 ghost use Rattle.mk_model.specs.Orders.{standard};
-ghost use Rattle.mk_move.specs.Priorities.{IsPriority};
+ghost use Rattle.mk_move.specs.Priorities.{IsPriority, others};
 
 use mk_model::NoMemory;
 use std::alloc::Global;
@@ -35,6 +35,42 @@ impl Priority {
             list.push(left)?;
         }
         Ok(Priority { columns: list })
+    }
+
+    /// The list that names one column first, and then the others from the last to the first.
+    pub fn first(alloc: Global, columns: u32, column: u32) -> Result<Priority, NoMemory>
+        requires { column < columns }
+        ensures { IfOk result (λ list. list ≡ column ∷ others column columns) }
+    {
+        let mut list = Vec::new(alloc);
+        list.push(column)?;
+        let mut end = columns;
+        while end > 0 {
+            end -= 1;
+            if end != column {
+                list.push(end)?;
+            }
+        }
+        Ok(Priority { columns: list })
+    }
+
+    /// A copy of it.
+    pub fn try_copy(&self) -> Result<Priority, NoMemory>
+        ensures { IfOk result (λ copy. copy ≡ self.now) }
+    {
+        let alloc = *self.columns.allocator();
+        Ok(Priority {
+            columns: Vec::from_slice(alloc, &self.columns)?,
+        })
+    }
+
+    /// The column at a place of the list: each is less than their number.
+    pub fn column_at(&self, n: u32) -> u32
+        requires { n < length self.now }
+        ensures value { slice_get self.now n ≡ Some result }
+        ensures range { result < length self.now }
+    {
+        self.columns[n as usize]
     }
 
     /// How many columns it names.

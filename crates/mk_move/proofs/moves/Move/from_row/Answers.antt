@@ -17,6 +17,6 @@ pub lead_weight-weight-requires-clause-entries : goal.lead_weight-weight-require
 lead_weight-weight-requires-clause-entries c =
     subst (All IsEntry) (sym c.as_slice.ensures) (All-oriented c.args.row.now c.args.priority.now c.in-Some.entries.items (found (goal.at.lead_weight-weight-requires-clause-entries c).In-Some) c.requires.entries)
 
-pub invariant_of-result : goal.invariant_of-result
-invariant_of-result c =
-    IsKept-oriented c.args.row.now c.args.priority.now _ (omega (arith, c.requires.columns, c.product-value.ensures.kept.columns)) (found (goal.at.invariant_of-result c).In-Some) c.requires.entries
+pub of_entries-requires : goal.of_entries-requires
+of_entries-requires c =
+    IsKept-oriented c.args.row.now c.args.priority.now _ (omega (arith, c.requires.columns, c.product-value.ensures.kept.columns)) (found (goal.at.of_entries-requires c).In-Some) c.requires.entries

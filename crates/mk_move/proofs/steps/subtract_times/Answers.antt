@@ -1,0 +1,55 @@
+use Rattle.std.proofs.Common.{◌≡◌, pos, length, arith, rules, sym, ap, subst, ◌∙◌, ℤ, IsTrue, false}
+use mir.Syntax.{w128}
+use mir.Val.{to_z, of_z, SFits}
+use Rattle.std.proofs.lemmas.Int.{to_z-of_z}
+use Rattle.mk_model.specs.Vectors.{zeros, weight, positive_part}
+use Rattle.mk_model.proofs.VectorAlgebra.{lengths}
+use Rattle.mk_move.specs.Steps.{GivesEntries, minus_times}
+use Rattle.mk_move.proofs.Readings.{entry_read}
+use Rattle.mk_move.proofs.Differences.{length-given, weight-minus_times}
+use Rattle.mk_move.proofs.steps.subtract_times.Goals as goal
+use Rattle.mk_move.proofs.steps.subtract_times.Goals.{In_ok-entries}
+
+given : (c : In_ok-entries) → GivesEntries c.args.u.now.entries c.args.v.now.entries c.args.times c.in_ok-entries.entries.items
+given c =
+    subst (λ (z : ℤ). GivesEntries c.args.u.now.entries c.args.v.now.entries z c.in_ok-entries.entries.items) (entry_read c.args.times c.requires.times)
+    (rw (c.entries.ensures.value, c.entries-2.ensures.value) at c.in_ok-entries.ensures)
+
+columns : (c : In_ok-entries) → length c.in_ok-entries.entries.items ≡ length c.args.u.now.entries
+columns c = length-given c.args.u.now.entries c.args.v.now.entries c.args.times c.in_ok-entries.entries.items (omega arith) (given c)
+
+pub returns-then-is_zero : goal.returns-then-is_zero
+returns-then-is_zero c =
+    let at = (goal.at.returns-then-is_zero c).In_ok-entries in
+    let zero : c.in_ok-entries.entries.items ≡ zeros (length c.in_ok-entries.entries.items) = rw c.as_slice.ensures at (c.if-is_zero.ensures.0 (search rules)) in
+    sym (given at).value ∙ zero ∙ ap zeros (columns at)
+
+pub lead_weight-weight-requires-clause-columns : goal.lead_weight-weight-requires-clause-columns
+lead_weight-weight-requires-clause-columns c =
+    ap length c.as_slice-2.ensures ∙ columns (goal.at.lead_weight-weight-requires-clause-columns c).In_ok-entries ∙ c.requires.columns
+
+none : IsTrue false → ⊥
+none h = search rules
+
+pub of_entries-requires : goal.of_entries-requires
+of_entries-requires c =
+    let at = (goal.at.of_entries-requires c).In_ok-entries in
+    record {
+      columns = omega (arith, columns at, c.entries.ensures.kept.columns);
+      not_zero = λ z. none (c.if-is_zero.ensures.1 (c.as_slice.ensures ∙ z ∙ sym (ap (λ x. zeros (length x)) c.as_slice.ensures)));
+      entries = (given at).range;
+    }
+
+pub returns : goal.returns
+returns c =
+    let at = (goal.at.returns c).In_ok-entries in
+    let w = c.args.grading.now in
+    let fits : SFits w128 c.lead_weight-weight.result = search rules in
+    let same = c.of_entries.ensures.entries ∙ (given at).value in
+    record {
+      entries = same;
+      graded = record {
+        product = ap (weight w) same ∙ weight-minus_times w c.args.u.now.entries c.args.v.now.entries c.args.times (omega arith) c.requires.left c.requires.right;
+        weight = c.of_entries.ensures.weight ∙ to_z-of_z w128 c.lead_weight-weight.result fits ∙ c.lead_weight-weight.ensures ∙ ap (λ x. weight w (positive_part x)) (c.as_slice-2.ensures ∙ sym c.of_entries.ensures.entries);
+      };
+    }

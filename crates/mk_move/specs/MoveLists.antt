@@ -1,0 +1,26 @@
+-- A list of moves with the grading and the priority list that they belong to.
+use Rattle.std.specs.Prelude.{◌≡◌, ℕ, ◌<◌, ◌^◌, List, length, All, ℤ}
+use Rattle.mk_model.specs.Orders.{IsOriented}
+use Rattle.mk_move.specs.Gradings.{AreWeights}
+use Rattle.mk_move.specs.Moves.{Weighed, IsGraded}
+use Rattle.mk_move.specs.Priorities.{IsPriority}
+
+-- the moves in their order, the priority list and the grading
+pub record MoveList : Type 0 where
+  pub moves : List Weighed
+  pub priority : List ℕ
+  pub grading : List ℤ
+
+-- as many columns as the list, product 0 with the grading, the weight of its lead, and oriented by the list
+pub record BelongsTo (p : List ℕ) (w : List ℤ) (m : Weighed) : Type 0 where
+  pub columns : length m.entries ≡ length p
+  pub graded : IsGraded w m
+  pub oriented : IsOriented p m.entries
+
+-- fewer than 2^32 moves, each of which belongs to the list and the grading
+pub record IsBasis (basis : MoveList) : Type 0 where
+  pub priority : IsPriority basis.priority
+  pub grading : AreWeights basis.grading
+  pub columns : length basis.priority ≡ length basis.grading
+  pub few : length basis.moves < 2 ^ 32
+  pub moves : All (BelongsTo basis.priority basis.grading) basis.moves

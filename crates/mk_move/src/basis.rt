@@ -1,0 +1,121 @@
+ghost use Rattle.std.specs.Prelude.{◌≡◌, ◌+◌, ◌^◌, ◌<◌, [], ◌∷◌, ◌++◌, length, IfOk, IfErr, OnOk, OnErr, slice_get};
+ghost use Rattle.mk_move.specs.MoveLists.{BelongsTo, IsBasis};
+
+use crate::grading::Grading;
+use crate::moves::Move;
+use crate::priority::Priority;
+use mk_model::NoMemory;
+use std::alloc::Global;
+use std::marker::Model;
+
+/// There is no memory to keep this move.
+#[derive(Debug, Drop)]
+pub struct PushFault {
+    pub given: Move,
+}
+
+/// Moves with the priority list that orients them and the grading that weighs them, all of as many columns: fewer than
+/// 2^32 moves, each with product 0. (Sturmfels, chapters 4 and 5)
+#[derive(Debug, Drop)]
+pub struct Basis {
+    moves: Vec<Move>,
+    priority: Priority,
+    grading: Grading,
+}
+
+impl Model for Basis {
+    ghost use Rattle.mk_move.specs.MoveLists.{MoveList, IsBasis};
+
+    ghost Value = { MoveList };
+
+    ghost view = { λ b. record { moves = b.moves.items; priority = b.priority; grading = b.grading } };
+
+    ghost invariant = { λ b. IsBasis (record { moves = b.moves.items; priority = b.priority; grading = b.grading }) };
+}
+
+impl Basis {
+    /// A basis without moves. The list and the grading have as many columns.
+    pub fn new(alloc: Global, priority: Priority, grading: Grading) -> Basis
+        requires { length priority ≡ length grading }
+        ensures moves { result.moves ≡ [] }
+        ensures priority { result.priority ≡ priority }
+        ensures grading { result.grading ≡ grading }
+    {
+        Basis {
+            moves: Vec::new(alloc),
+            priority,
+            grading,
+        }
+    }
+
+    /// Puts a move at the end: one with product 0, the weight of its lead, and oriented by the list. The fault hands it
+    /// back, and the basis is as before.
+    pub fn push(&mut self, m: Move) -> Result<(), PushFault>
+        requires belongs { BelongsTo self.old.priority self.old.grading m }
+        requires room { length self.old.moves + 1 < 2 ^ 32 }
+        ensures ok { OnOk result (self.new ≡ record self.old { moves = self.old.moves ++ m ∷ [] }) }
+        ensures err { OnErr result (self.new ≡ self.old) }
+        ensures given { IfErr result (λ fault. fault.given ≡ m) }
+    {
+        match self.moves.push(m) {
+            Ok(()) => Ok(()),
+            Err(failed) => Err(PushFault {
+                given: failed.value,
+            }),
+        }
+    }
+
+    /// How many moves it has: fewer than 2^32.
+    pub fn len(&self) -> u32
+        ensures value { result ≡ length self.now.moves }
+        ensures kept { IsBasis self.now }
+    {
+        self.moves.len() as u32
+    }
+
+    /// The move of a place.
+    pub fn move_at(&self, k: u32) -> &Move
+        requires { k < length self.now.moves }
+        ensures value { slice_get self.now.moves k ≡ Some result.now }
+        ensures belongs { BelongsTo self.now.priority self.now.grading result.now }
+    {
+        &self.moves[k as usize]
+    }
+
+    /// The list that orients its moves.
+    pub fn priority(&self) -> &Priority
+        ensures { result.now ≡ self.now.priority }
+    {
+        &self.priority
+    }
+
+    /// The grading that weighs its moves.
+    pub fn grading(&self) -> &Grading
+        ensures { result.now ≡ self.now.grading }
+    {
+        &self.grading
+    }
+
+    /// A copy of it.
+    pub fn try_copy(&self) -> Result<Basis, NoMemory>
+        ensures { IfOk result (λ copy. copy ≡ self.now) }
+    {
+        let moves = copies(*self.moves.allocator(), self.moves.as_slice())?;
+        Ok(Basis {
+            moves,
+            priority: self.priority.try_copy()?,
+            grading: self.grading.try_copy()?,
+        })
+    }
+}
+
+/// Copies of moves.
+fn copies(alloc: Global, moves: &[Move]) -> Result<Vec<Move>, NoMemory>
+    ensures { IfOk result (λ copies. copies.items ≡ moves.now) }
+{
+    let mut copies = Vec::with_capacity(alloc, moves.len())?;
+    for m in moves {
+        copies.push(m.try_copy()?)?;
+    }
+    Ok(copies)
+}

@@ -1,0 +1,128 @@
+ghost use Rattle.std.specs.Prelude.{◌≡◌, ◌≤◌, ◌↔◌, IsTrue, pos, length, All, MatchResult, MatchOption, ◌-ℤ◌, ◌*ℤ◌};
+ghost use Rattle.mk_model.specs.Vectors.{IsEntry, weight, zeros};
+ghost use Rattle.mk_model.specs.Overflows.{IsBeyond};
+ghost use Rattle.mk_move.specs.Steps.{TakesOff, IsStepFault, GivesEntries, GivesEntry};
+
+use crate::grading::Grading;
+use crate::moves::{Entries, Move};
+use mk_model::{ENTRY_MAX, Entry};
+use smallvec::SmallVec;
+use std::alloc::{AllocError, AllocFailed, Global};
+
+/// A column where `left - times * right` leaves the range of entries, from -9223372036854775807 to 9223372036854775807.
+#[derive(Clone, Copy, Debug, PartialEq, Eq)]
+pub struct OverflowAt {
+    pub column: u32,
+    pub left: i128,
+    pub times: i128,
+    pub right: i128,
+}
+
+/// Why there is no difference of two moves.
+#[derive(Clone, Copy, Debug, PartialEq, Eq)]
+pub enum StepFault {
+    Memory,
+    Overflow(OverflowAt),
+}
+
+impl From<AllocError> for StepFault {
+    ghost use Rattle.std.specs.Prelude.{◌≡◌};
+    ghost use Rattle.mk_move.specs.declared.steps.StepFault.TheVariants.{Memory};
+
+    ghost from_gives = { λ _ e. e ≡ Memory };
+
+    fn from(_e: AllocError) -> StepFault {
+        StepFault::Memory
+    }
+}
+
+impl<T: Drop> From<AllocFailed<T>> for StepFault {
+    ghost use Rattle.std.specs.Prelude.{◌≡◌};
+    ghost use Rattle.mk_move.specs.declared.steps.StepFault.TheVariants.{Memory};
+
+    ghost from_gives = { λ _ e. e ≡ Memory };
+
+    fn from(_e: AllocFailed<T>) -> StepFault {
+        StepFault::Memory
+    }
+}
+
+/// The move `u` minus so many times `v`, and none where that is zero; all have as many columns. `Overflow` names the
+/// first column whose entry leaves the range. (Sturmfels, chapter 5: a step of reduction, or the difference of a pair)
+pub fn subtract_times(
+    alloc: Global,
+    u: &Move,
+    times: Entry,
+    v: &Move,
+    grading: &Grading,
+) -> Result<Option<Move>, StepFault>
+    requires columns { length u.now.entries ≡ length grading.now }
+    requires as_many { length v.now.entries ≡ length grading.now }
+    requires times { IsEntry times }
+    requires left { weight grading.now u.now.entries ≡ pos 0 }
+    requires right { weight grading.now v.now.entries ≡ pos 0 }
+    ensures { TakesOff u.now.entries times v.now.entries grading.now result }
+{
+    let entries = entries_less(alloc, u.entries(), times, v.entries())?;
+    if is_zero(entries.as_slice()) {
+        return Ok(None);
+    }
+    let weight = grading.lead_weight(entries.as_slice());
+    Ok(Some(Move::of_entries(entries, weight)))
+}
+
+/// The row minus so many times the other, of as many columns.
+fn entries_less(
+    alloc: Global,
+    left: &[Entry],
+    times: Entry,
+    right: &[Entry],
+) -> Result<Entries, StepFault>
+    requires columns { length left.now ≡ length right.now }
+    requires few { length left.now ≤ 512 }
+    requires left { All IsEntry left.now }
+    requires times { IsEntry times }
+    requires right { All IsEntry right.now }
+    ensures { MatchResult result (λ entries. GivesEntries left.now right.now times entries.items) (IsStepFault left.now right.now times) }
+{
+    let mut entries = SmallVec::with_capacity(alloc, left.len())?;
+    for (column, entry) in left.iter().enumerate() {
+        let Some(value) = entry_less(*entry, times, right[column]) else {
+            return Err(StepFault::Overflow(OverflowAt {
+                column: column as u32,
+                left: i128::from(*entry),
+                times: i128::from(times),
+                right: i128::from(right[column]),
+            }));
+        };
+        entries.push(value)?;
+    }
+    Ok(entries)
+}
+
+/// The entry `left - times * right`, and none where it leaves the range.
+fn entry_less(left: Entry, times: Entry, right: Entry) -> Option<Entry>
+    requires left { IsEntry left }
+    requires times { IsEntry times }
+    requires right { IsEntry right }
+    ensures { MatchOption result (IsBeyond (left -ℤ (times *ℤ right))) (GivesEntry (left -ℤ (times *ℤ right))) }
+{
+    let value = i128::from(left) - i128::from(times) * i128::from(right);
+    let most = i128::from(ENTRY_MAX);
+    if value < -most || value > most {
+        return None;
+    }
+    Some(value as Entry)
+}
+
+/// Has the row no entry but 0?
+fn is_zero(row: &[Entry]) -> bool
+    ensures { IsTrue result ↔ (row.now ≡ zeros (length row.now)) }
+{
+    for entry in row {
+        if *entry != 0 {
+            return false;
+        }
+    }
+    true
+}

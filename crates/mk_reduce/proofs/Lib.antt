@@ -1,1 +1,2 @@
 pub mod LeadLists
+pub mod Beginnings

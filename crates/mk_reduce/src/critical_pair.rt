@@ -1,0 +1,28 @@
+ghost use Rattle.std.specs.Prelude.{◌≡◌, ◌<◌, [], length, IfOk, IfErr};
+ghost use Rattle.mk_model.specs.CoreStates.{pair_of};
+ghost use Rattle.mk_reduce.specs.Works.{WorkOf};
+ghost use Rattle.mk_reduce.specs.Stops.{IsDifferenceRefused};
+
+use crate::stop::Stop;
+use crate::work::Work;
+use mk_move::{Basis, subtract_times};
+use std::alloc::Global;
+
+/// The work on a pair of places, which begins at the difference of its moves: the second minus the first. `Overflow`
+/// has no move, and names the first column whose entry leaves the range. (Sturmfels, chapters 1 and 5: an S-pair)
+pub fn critical(alloc: Global, basis: &Basis, i: u32, j: u32) -> Result<Work, Stop>
+    requires ordered { i < j }
+    requires within { j < length basis.now.moves }
+    ensures work { IfOk result (λ work. WorkOf work basis.now) }
+    ensures pair { IfOk result (λ work. work.pair ≡ pair_of i j) }
+    ensures front { IfOk result (λ work. work.front ≡ 0) }
+    ensures trace { IfOk result (λ work. work.trace ≡ []) }
+    ensures refused { IfErr result (IsDifferenceRefused basis.now.moves (pair_of i j)) }
+{
+    prove!(j < basis.len());
+    let second = basis.move_at(j);
+    match subtract_times(alloc, second, 1, basis.move_at(i), basis.grading()) {
+        Ok(remainder) => Ok(Work::new(alloc, i, j, remainder)),
+        Err(fault) => Err(Stop::of_fault(fault, None)),
+    }
+}

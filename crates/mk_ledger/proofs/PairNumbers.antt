@@ -1,0 +1,50 @@
+-- The numbers of pairs: how many pairs one move more brings, and that a number names one pair.
+use Rattle.std.proofs.Common.{◌≡◌, ◌⊎◌, inl, inr, ℕ, zero, suc, ◌+◌, ◌-◌, ◌*◌, ◌/◌, ◌<◌, ◌≤◌, arith, refl, sym, ap, ◌∙◌, subst}
+use Rattle.std.proofs.Math.Nat.{add-mul-div_right}
+use Rattle.std.proofs.lemmas.Bool.{cases_order}
+use Rattle.mk_ledger.specs.PairFlags.{pairs_of, pair_number}
+
+product_more : (m : ℕ) → (m + 1) * (m + 1 - 1) ≡ m * (m - 1) + m * 2
+product_more zero = refl
+product_more (suc m) =
+    let e : suc m + 1 - 1 ≡ m + 1 = omega arith in
+    let f : suc m - 1 ≡ m = omega arith in
+    let g : (suc m + 1) * (m + 1) ≡ suc m * m + suc m * 2 = omega arith in
+    ap (λ k. (suc m + 1) * k) e ∙ g ∙ ap (λ k. suc m * k + suc m * 2) (sym f)
+
+pub pairs_of_more : (m : ℕ) → pairs_of (m + 1) ≡ pairs_of m + m
+unfolding pairs_of
+pairs_of_more m = ap (λ k. k / 2) (product_more m) ∙ add-mul-div_right (m * (m - 1)) m (omega arith)
+
+pub pairs_of_none : pairs_of 0 ≡ 0
+unfolding pairs_of
+pairs_of_none = refl
+
+pairs_of_further : (m k : ℕ) → pairs_of m ≤ pairs_of (m + k)
+pairs_of_further m zero = let e : m + zero ≡ m = omega arith in subst (λ n. pairs_of m ≤ pairs_of n) (sym e) (omega arith)
+pairs_of_further m (suc k) =
+    let e : m + suc k ≡ m + k + 1 = omega arith in
+    subst (λ n. pairs_of m ≤ pairs_of n) (sym e) (omega (arith, pairs_of_further m k, pairs_of_more (m + k)))
+
+-- no fewer pairs of no fewer moves
+pub pairs_of_least : (m n : ℕ) → m ≤ n → pairs_of m ≤ pairs_of n
+pairs_of_least m n l =
+    let e : m + (n - m) ≡ n = omega arith in
+    subst (λ k. pairs_of m ≤ pairs_of k) e (pairs_of_further m (n - m))
+
+-- the numbers of the pairs of so many moves are below their count
+pub number_below : (i j m : ℕ) → i < j → j < m → pair_number i j < pairs_of m
+number_below i j m l k = omega (arith, pairs_of_more j, pairs_of_least (j + 1) m (omega arith))
+
+-- a greater second place has the greater number
+pub number_of_less : (i j k l : ℕ) → i < j → j < l → pair_number i j < pair_number k l
+number_of_less i j k l h g = omega (arith, number_below i j l h g)
+
+-- one number is that of one pair
+pub number_of_one : (i j k l : ℕ) → i < j → k < l → pair_number i j ≡ pair_number k l → (i ≡ k) × (j ≡ l)
+number_of_one i j k l h g e = go (cases_order j l)
+  where
+    go : (j ≡ l) ⊎ ((j < l) ⊎ (l < j)) → (i ≡ k) × (j ≡ l)
+    go (inr (inl f)) = absurd (omega (arith, number_of_less i j k l h f))
+    go (inl f) = (omega (arith, ap pairs_of f), f)
+    go (inr (inr f)) = absurd (omega (arith, number_of_less k l i j g f))

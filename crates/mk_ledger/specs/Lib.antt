@@ -1,0 +1,2 @@
+pub mod PairFlags
+pub mod Entries

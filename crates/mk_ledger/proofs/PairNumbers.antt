@@ -1,7 +1,7 @@
 -- The numbers of pairs: how many pairs one move more brings, and that a number names one pair.
 use Rattle.std.proofs.Common.{◌≡◌, ◌⊎◌, inl, inr, ℕ, zero, suc, ◌+◌, ◌-◌, ◌*◌, ◌/◌, ◌<◌, ◌≤◌, arith, refl, sym, ap, ◌∙◌, subst}
 use Rattle.std.proofs.Math.Nat.{add-mul-div_right}
-use Rattle.std.proofs.lemmas.Bool.{cases_order}
+use Rattle.std.proofs.lemmas.Bool.{cases_lt, cases_order}
 use Rattle.mk_ledger.specs.PairFlags.{pairs_of, pair_number}
 
 product_more : (m : ℕ) → (m + 1) * (m + 1 - 1) ≡ m * (m - 1) + m * 2
@@ -48,3 +48,22 @@ number_of_one i j k l h g e = go (cases_order j l)
     go (inr (inl f)) = absurd (omega (arith, number_of_less i j k l h f))
     go (inl f) = (omega (arith, ap pairs_of f), f)
     go (inr (inr f)) = absurd (omega (arith, number_of_less k l i j g f))
+
+-- the number of a pair tells whether its places are below a count
+pub within_by_number : (i j m : ℕ) → i < j → pair_number i j < pairs_of m → j < m
+within_by_number i j m l h = go (cases_lt j m)
+  where
+    go : (j < m) ⊎ (m ≤ j) → j < m
+    go (inl f) = f
+    go (inr f) = absurd (omega (arith, h, pairs_of_least m j f))
+
+-- the next number is that of the next first place, or of the next second place
+pub number_in_row : (i j : ℕ) → pair_number (i + 1) j ≡ pair_number i j + 1
+number_in_row i j = omega arith
+
+pub number_next_row : (i j : ℕ) → i < j → j ≤ i + 1 → pair_number 0 (j + 1) ≡ pair_number i j + 1
+number_next_row i j l h = omega (arith, pairs_of_more j)
+
+pub number_first : pair_number 0 1 ≡ 0
+unfolding pairs_of
+number_first = refl

@@ -1,5 +1,5 @@
 -- The pairs of moves by their numbers, and which of them are settled: a bit for each, 64 in a word.
-use Rattle.std.specs.Prelude.{◌≡◌, ℕ, ◌+◌, ◌-◌, ◌*◌, ◌/◌, ◌%◌, ◌≤◌, ◌==◌, Bool, false, List, map, length, get_or}
+use Rattle.std.specs.Prelude.{◌≡◌, ℕ, ◌+◌, ◌-◌, ◌*◌, ◌/◌, ◌%◌, ◌<◌, ◌≤◌, ◌==◌, Bool, false, List, map, length, get_or}
 use Rattle.std.specs.List.{range_with_len}
 use Rattle.std.specs.Int.{bit_at}
 
@@ -29,3 +29,8 @@ pub record AreWords (words : List ℕ) (moves : ℕ) : Type 0 where
   pub few : moves ≤ 65536
   pub room : pairs_of moves ≤ length words * 64
   pub clear : (number : ℕ) → pairs_of moves ≤ number → flag_at words number ≡ false
+
+-- two places of at most 65,537 moves, the lesser first
+pub record IsPlace (i j : ℕ) : Type 0 where
+  pub ordered : i < j
+  pub within : j ≤ 65536

@@ -3,9 +3,11 @@
 #![tactic(auto)]
 
 mod bits;
+mod frontier;
 mod journal;
 mod numbers;
 
 pub use bits::SettledBits;
+pub use frontier::Frontier;
 pub use journal::{Journal, JournalEntry, Kind};
 pub use numbers::pair_number;

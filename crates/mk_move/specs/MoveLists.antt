@@ -1,5 +1,5 @@
 -- A list of moves with the grading and the priority list that they belong to.
-use Rattle.std.specs.Prelude.{◌≡◌, ℕ, ◌<◌, ◌^◌, List, length, All, ℤ}
+use Rattle.std.specs.Prelude.{◌≡◌, ℕ, ◌<◌, ◌^◌, List, length, map, All, ℤ}
 use Rattle.mk_model.specs.Orders.{IsOriented}
 use Rattle.mk_move.specs.Gradings.{AreWeights}
 use Rattle.mk_move.specs.Moves.{Weighed, IsGraded}
@@ -24,3 +24,7 @@ pub record IsBasis (basis : MoveList) : Type 0 where
   pub columns : length basis.priority ≡ length basis.grading
   pub few : length basis.moves < 2 ^ 32
   pub moves : All (BelongsTo basis.priority basis.grading) basis.moves
+
+-- the vectors of moves, in their order
+abbrev pub vectors_of : List Weighed → List (List ℤ)
+vectors_of moves = map (λ m. m.entries) moves

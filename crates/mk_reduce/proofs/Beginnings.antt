@@ -11,13 +11,12 @@ use Rattle.mk_model.specs.Reductions.Reaches.{here}
 use Rattle.mk_model.specs.Overflows.{IsFirstBeyond}
 use Rattle.mk_model.proofs.VectorAlgebra.{scale-one}
 use Rattle.mk_move.specs.Moves.{Weighed}
-use Rattle.mk_move.specs.MoveLists.{MoveList}
+use Rattle.mk_move.specs.MoveLists.{MoveList, vectors_of}
 use Rattle.mk_move.specs.Steps.{minus_times, TakesOff, IsStepFault, IsOverflow}
 use Rattle.mk_move.specs.declared.steps.OverflowAt.{OverflowAt}
 use Rattle.mk_move.specs.declared.steps.StepFault.{StepFault}
 use Rattle.mk_move.specs.declared.steps.StepFault.TheVariants.{Memory, Overflow}
 use Rattle.mk_reduce.specs.declared.step.Step.{Step}
-use Rattle.mk_reduce.specs.Leads.{vectors_of}
 use Rattle.mk_reduce.specs.Works.{WorkOf, rest_of, IsRest}
 use Rattle.mk_reduce.specs.Stops.{stop_for, overflow_of, IsDifferenceRefused}
 

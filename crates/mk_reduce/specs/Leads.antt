@@ -1,10 +1,7 @@
--- The vectors of moves and their leads, in their order.
+-- The leads of moves, in their order.
 use Rattle.std.specs.Prelude.{List, map, ℤ}
 use Rattle.mk_model.specs.Orders.{lead}
 use Rattle.mk_move.specs.Moves.{Weighed}
-
-abbrev pub vectors_of : List Weighed → List (List ℤ)
-vectors_of moves = map (λ m. m.entries) moves
 
 abbrev pub leads_of : List Weighed → List (List ℤ)
 leads_of moves = map (λ m. lead m.entries) moves

@@ -8,7 +8,7 @@ use Rattle.mk_move.specs.declared.steps.StepFault.{StepFault}
 use Rattle.mk_move.specs.declared.steps.StepFault.TheVariants as Fault
 use Rattle.mk_reduce.specs.declared.stop.Stop.{Stop}
 use Rattle.mk_reduce.specs.declared.stop.Stop.TheVariants.{Memory, Overflow}
-use Rattle.mk_reduce.specs.Leads.{vectors_of}
+use Rattle.mk_move.specs.MoveLists.{vectors_of}
 
 -- the stop for a fault of a difference or of a step
 abbrev pub stop_for : StepFault → Option ℕ → Stop

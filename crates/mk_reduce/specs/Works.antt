@@ -6,10 +6,9 @@ use Rattle.mk_model.specs.CoreStates.{Pair, move_at, difference, IsPairOf}
 use Rattle.mk_model.specs.Overflows.{IsTimesDividing}
 use Rattle.mk_model.specs.Reductions.{Reduct, IsNormal}
 use Rattle.mk_move.specs.Moves.{Weighed, IsGraded}
-use Rattle.mk_move.specs.MoveLists.{MoveList}
+use Rattle.mk_move.specs.MoveLists.{MoveList, vectors_of}
 use Rattle.mk_move.specs.Steps.{minus_times}
 use Rattle.mk_reduce.specs.declared.step.Step.{Step}
-use Rattle.mk_reduce.specs.Leads.{vectors_of}
 
 -- the pair, how many of the first moves it has been reduced by, what is left, and the steps in their order
 pub record TheWork : Type 0 where

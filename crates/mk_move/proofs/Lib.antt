@@ -7,3 +7,4 @@ pub mod Readings
 pub mod Comparisons
 pub mod Orientations
 pub mod Differences
+pub mod Belongings

@@ -8,3 +8,4 @@ pub mod Comparisons
 pub mod Orientations
 pub mod Differences
 pub mod Belongings
+pub mod Blocks

@@ -4,3 +4,4 @@ pub mod Moves
 pub mod Sides
 pub mod Steps
 pub mod MoveLists
+pub mod Masks

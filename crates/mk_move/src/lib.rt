@@ -6,6 +6,7 @@ mod basis;
 mod finder;
 mod grading;
 mod leads;
+mod masks;
 mod moves;
 mod orders;
 mod priority;

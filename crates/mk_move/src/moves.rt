@@ -1,13 +1,18 @@
 ghost use Rattle.std.specs.Prelude.{◌≡◌, ◌<◌, List, ℤ, length, map, IfOk, MatchOption, All};
 ghost use Rattle.mk_model.specs.Vectors.{IsEntry, entry, negate, zeros};
 ghost use Rattle.mk_move.specs.Moves.{IsKept, IsRowOriented, IsGraded, ReadsRow, first_along};
+ghost use Rattle.mk_move.specs.Masks.{IsMask};
+ghost use Rattle.mk_move.specs.Sides.{part_of};
 
 use crate::grading::Grading;
+use crate::masks::masks_of;
 use crate::priority::Priority;
+use crate::side::Side;
 use mk_model::{Entry, NoMemory};
 use smallvec::SmallVec;
 use std::alloc::{AllocError, AllocFailed, Global};
 use std::marker::Model;
+use std::mem;
 
 /// Why a row is no move.
 #[derive(Clone, Copy, Debug, PartialEq, Eq)]
@@ -32,22 +37,27 @@ const INLINE: usize = 16;
 
 pub(crate) type Entries = SmallVec<Entry, INLINE>;
 
-/// A vector of a lattice that isn't zero, of at most 512 columns, with the weight of its lead.
+/// A vector of a lattice that isn't zero, of at most 512 columns, with the weight of its lead, and the masks of its
+/// positive and its negative part.
 /// (Sturmfels, chapters 4 and 5: a binomial with its degree)
 #[derive(Debug, Drop)]
 pub struct Move {
     entries: Entries,
     weight: i128,
+    plus: u64,
+    minus: u64,
 }
 
 impl Model for Move {
     ghost use Rattle.mk_move.specs.Moves.{Weighed, IsKept};
+    ghost use Rattle.mk_move.specs.Masks.{AreMasks};
 
     ghost Value = { Weighed };
 
     ghost view = { λ m. record { entries = m.entries.items; weight = m.weight } };
 
-    ghost invariant = { λ m. IsKept (record { entries = m.entries.items; weight = m.weight }) };
+    ghost invariant = { λ m. IsKept (record { entries = m.entries.items; weight = m.weight })
+        × AreMasks m.entries.items m.plus m.minus };
 }
 
 impl Move {
@@ -81,7 +91,13 @@ impl Move {
         ensures entries { result.entries ≡ entries.items }
         ensures weight { result.weight ≡ weight }
     {
-        Move { entries, weight }
+        let (plus, minus) = masks_of(entries.as_slice());
+        Move {
+            entries,
+            weight,
+            plus,
+            minus,
+        }
     }
 
     /// A copy of it.
@@ -90,7 +106,12 @@ impl Move {
     {
         let alloc = *self.entries.allocator();
         let entries = SmallVec::from_slice(alloc, self.entries.as_slice())?;
-        Ok(Move::of_entries(entries, self.weight))
+        Ok(Move {
+            entries,
+            weight: self.weight,
+            plus: self.plus,
+            minus: self.minus,
+        })
     }
 
     /// Turns it into its negative where it isn't oriented by the list, of as many columns. The weight stays: with a
@@ -103,6 +124,7 @@ impl Move {
     {
         if first_entry(self.entries.as_slice(), priority.as_slice()) > 0 {
             negate_all(self.entries.as_mut_slice());
+            mem::swap(&mut self.plus, &mut self.minus);
         }
     }
 
@@ -112,6 +134,16 @@ impl Move {
         ensures kept { IsKept self.now }
     {
         self.entries.as_slice()
+    }
+
+    /// The mask of its part on a side.
+    pub(crate) fn mask(&self, side: Side) -> u64
+        ensures { IsMask (part_of side self.now.entries) result }
+    {
+        match side {
+            Side::Plus => self.plus,
+            Side::Minus => self.minus,
+        }
     }
 
     /// How many columns it has.

@@ -8,6 +8,7 @@ use Rattle.mk_model.proofs.VectorAlgebra.{length-negate}
 use Rattle.mk_move.specs.Moves.{Weighed, IsRowOriented, first_along}
 use Rattle.mk_move.proofs.Readings.{less, not_less}
 use Rattle.mk_move.proofs.Parts.{row_turned, IsKept-oriented}
+use Rattle.mk_move.proofs.Blocks.{masks_turned}
 use Rattle.mk_move.proofs.Orientations.{already_oriented, refill_all, IsGraded-negate}
 use Rattle.mk_move.proofs.moves.Move.orient.Goals as goal
 use Rattle.mk_move.proofs.moves.Move.orient.Goals.{After-first_entry, After-self-1}
@@ -32,8 +33,12 @@ oriented c h e = row_turned c.args.priority.now c.self.inside.entries.items _ c.
 pub invariant_of-self : goal.invariant_of-self
 invariant_of-self c =
     let at = (goal.at.invariant_of-self c).After-first_entry in
-    IsKept-oriented c.self.inside.entries.items c.args.priority.now _ c.self.invariant.columns
-    (oriented (goal.at.invariant_of-self c).After-self-1 (less _ _ (pos 0) _ refl (first_read at) c.if-first_entry-gt0.true) (first_is at)) c.self.invariant.entries
+    let after = (goal.at.invariant_of-self c).After-self-1 in
+    (
+      IsKept-oriented c.self.inside.entries.items c.args.priority.now _ c.self.invariant.0.columns
+      (oriented after (less _ _ (pos 0) _ refl (first_read at) c.if-first_entry-gt0.true) (first_is at)) c.self.invariant.0.entries,
+      masks_turned c.self.inside.entries.items _ c.self.inside.plus c.self.inside.minus c.swap.new.x c.swap.new.y (turned after) c.swap.ensures.x_after c.swap.ensures.y_after c.self.invariant.1,
+    )
 
 pub returns-then-first_entry-gt0-clause-entries : goal.returns-then-first_entry-gt0-clause-entries
 returns-then-first_entry-gt0-clause-entries c =
@@ -48,4 +53,4 @@ pub returns-else-first_entry-gt0-clause-entries : goal.returns-else-first_entry-
 returns-else-first_entry-gt0-clause-entries c =
     let at = (goal.at.returns-else-first_entry-gt0-clause-entries c).After-first_entry in
     rw (← c.self.view_is)
-    (already_oriented c.args.priority.now c.self.inside.entries.items c.first_entry.result c.as_slice-2.ensures.kept (c.requires ∙ sym (ap (λ (m : Weighed). length m.entries) c.self.view_is)) c.self.invariant.not_zero (first_is at) (not_less _ _ (pos 0) _ refl (first_read at) c.if-first_entry-gt0.false))
+    (already_oriented c.args.priority.now c.self.inside.entries.items c.first_entry.result c.as_slice-2.ensures.kept (c.requires ∙ sym (ap (λ (m : Weighed). length m.entries) c.self.view_is)) c.self.invariant.0.not_zero (first_is at) (not_less _ _ (pos 0) _ refl (first_read at) c.if-first_entry-gt0.false))

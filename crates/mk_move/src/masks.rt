@@ -1,0 +1,33 @@
+ghost use Rattle.std.specs.Prelude.{◌≡◌, ◌≤◌, length, All};
+ghost use Rattle.mk_model.specs.Vectors.{IsEntry};
+ghost use Rattle.mk_move.specs.Masks.{block_width, AreMasks};
+
+use mk_model::Entry;
+
+/// The masks of the positive and the negative part of a row of at most 512 columns: a bit for each block of columns, set
+/// where the part has an entry there. The blocks stand in the order of the columns.
+pub(crate) fn masks_of(row: &[Entry]) -> (u64, u64)
+    requires few { length row.now ≤ 512 }
+    requires entries { All IsEntry row.now }
+    ensures { AreMasks row.now result.0 result.1 }
+{
+    let width = block_width(row.len());
+    let mut plus: u64 = 0;
+    let mut minus: u64 = 0;
+    for (column, entry) in row.iter().enumerate() {
+        if *entry > 0 {
+            plus |= 1 << (column / width);
+        } else if *entry < 0 {
+            minus |= 1 << (column / width);
+        }
+    }
+    (plus, minus)
+}
+
+/// How many columns a block has, of so many columns: 1 for up to 64 columns, and 8 for 512.
+fn block_width(columns: usize) -> usize
+    requires { columns ≤ 512 }
+    ensures { result ≡ block_width columns }
+{
+    columns.div_ceil(64).max(1)
+}

@@ -9,3 +9,4 @@ pub mod Orientations
 pub mod Differences
 pub mod Belongings
 pub mod Blocks
+pub mod MaskTests

@@ -14,6 +14,9 @@ pub fn lead_divides(v: &Move, r: &Move, side: Side) -> bool
     requires { length v.now.entries ≡ length r.now.entries }
     ensures { IsTrue result ↔ Divides (positive_part v.now.entries) (part_of side r.now.entries) }
 {
+    if v.mask(Side::Plus) & !r.mask(side) != 0 {
+        return false;
+    }
     divides_part(v.entries(), r.entries(), side)
 }
 
@@ -33,6 +36,12 @@ pub fn coprime_leads(a: &Move, b: &Move) -> bool
     requires { length a.now.entries ≡ length b.now.entries }
     ensures { IsTrue result ↔ AreDisjoint (positive_part a.now.entries) (positive_part b.now.entries) }
 {
+    if a.mask(Side::Plus) & b.mask(Side::Plus) == 0 {
+        return true;
+    }
+    if a.columns() <= 64 {
+        return false;
+    }
     are_disjoint(a.entries(), b.entries())
 }
 

@@ -1,0 +1,87 @@
+-- What two masks say of the vectors that they are masks of.
+use Rattle.std.proofs.Common.{◌≡◌, ◌≢◌, ◌⊎◌, inl, inr, ℕ, zero, suc, ◌+◌, ◌-◌, ◌*◌, ◌/◌, ◌^◌, ◌<◌, ◌≤◌, min, List, length, arith, refl, sym, ap, ◌∙◌, subst, ⊎_elim, ℤ, pos, ◌<ℤ◌, ◌≤ℤ◌}
+use Rattle.std.specs.Int.{bit_at, w64, bit_not}
+use Rattle.std.specs.Int.RustNames.{bit_and}
+use Rattle.std.proofs.lemmas.Int.{ints, by_lt_z}
+use Rattle.std.proofs.lemmas.Nat.{and_le_l}
+use Rattle.std.proofs.lemmas.Nat.Bits.{bit_at-zero, bit_at_and, bit_at_not, bit_at-lt, bit_at-trailing_zeros}
+use Rattle.std.proofs.Math.Nat.{div-one}
+use Rattle.std.proofs.lemmas.Bool.{cases_lt, cases_eq}
+use Rattle.mk_model.specs.Vectors.{entry}
+use Rattle.mk_model.specs.Reductions.{Divides}
+use Rattle.mk_model.specs.Pairs.{AreDisjoint}
+use Rattle.mk_move.specs.Masks.{block_width, block_of, HasPositive, IsMask}
+
+-- a number that isn't 0 has a bit that is set
+some_bit : (n : ℕ) → n < 2 ^ 64 → n ≢ 0 → (k : ℕ) × (k < 64) × (bit_at n k ≡ 1)
+some_bit n fits some =
+    let (within, set, _) = bit_at-trailing_zeros w64 n (omega (arith, some)) fits in (_, within, set)
+
+-- columns of vectors of as many columns in one block
+same_block : (x y : List ℤ) (c : ℕ) → length x ≡ length y → block_of y c ≡ block_of x c
+same_block x y c l = ap (λ (n : ℕ). c / block_width n) (sym l)
+
+-- a mask covers a column of its block
+covered_there : (y : List ℤ) (outer block c : ℕ) → IsMask y outer → block_of y c ≡ block → pos 0 <ℤ entry y c → bit_at outer block ≡ 1
+covered_there y outer block c g e p = ap (bit_at outer) (sym e) ∙ g.covers c p
+
+-- a block with an entry of the one, and none of the other: the one doesn't divide the other
+not_dividing_at : (x y : List ℤ) (outer block : ℕ) → length x ≡ length y → HasPositive x block → IsMask y outer → bit_at outer block ≡ 0 → Divides x y → ⊥
+not_dividing_at x y outer block l there g clear d =
+    let positive : pos 0 <ℤ entry y there.column = omega (arith, ints, there.positive, d.entries there.column) in
+    omega (arith, covered_there y outer block there.column g (same_block x y there.column l ∙ there.there) positive)
+
+only_in_first : (inner outer k : ℕ) → outer < 2 ^ 64 → k < 64 → bit_at (bit_and inner (bit_not w64 outer)) k ≡ 1 → (bit_at inner k ≡ 1) × (bit_at outer k ≡ 0)
+only_in_first inner outer k room low set =
+    let both : min (bit_at inner k) (bit_at (bit_not w64 outer) k) ≡ 1 = sym (bit_at_and inner (bit_not w64 outer) k) ∙ set in
+    (omega (arith, both, bit_at-lt inner k, bit_at-lt (bit_not w64 outer) k), omega (arith, both, bit_at_not w64 outer k room low, bit_at-lt outer k))
+
+pub not_dividing : (x y : List ℤ) (inner outer : ℕ) → inner < 2 ^ 64 → outer < 2 ^ 64 → length x ≡ length y → IsMask x inner → IsMask y outer → bit_and inner (bit_not w64 outer) ≢ 0 → Divides x y → ⊥
+not_dividing x y inner outer fits room l h g some d = go (some_bit (bit_and inner (bit_not w64 outer)) (omega (arith, and_le_l inner (bit_not w64 outer))) some)
+  where
+    go : (k : ℕ) × (k < 64) × (bit_at (bit_and inner (bit_not w64 outer)) k ≡ 1) → ⊥
+    go (k, low, set) =
+        let bits = only_in_first inner outer k room low set in
+        not_dividing_at x y outer k l (h.covered k bits.0) g bits.1 d
+
+-- no block with entries of both
+pub apart : (x y : List ℤ) (left right : ℕ) → length x ≡ length y → IsMask x left → IsMask y right → bit_and left right ≡ 0 → (c : ℕ) → pos 0 <ℤ entry x c → pos 0 <ℤ entry y c → ⊥
+apart x y left right l h g none c p q =
+    let in_left : bit_at left (block_of x c) ≡ 1 = h.covers c p in
+    let in_right : bit_at right (block_of x c) ≡ 1 = covered_there y right (block_of x c) c g (same_block x y c l) q in
+    let neither : bit_at (bit_and left right) (block_of x c) ≡ 0 = ap (λ n. bit_at n (block_of x c)) none ∙ bit_at-zero (block_of x c) in
+    omega (arith, bit_at_and left right (block_of x c))
+
+pub apart_disjoint : (x y : List ℤ) (left right : ℕ) → length x ≡ length y → ((c : ℕ) → pos 0 ≤ℤ entry x c) → ((c : ℕ) → pos 0 ≤ℤ entry y c) → IsMask x left → IsMask y right → bit_and left right ≡ 0 → AreDisjoint x y
+apart_disjoint x y left right l m n h g none c =
+    by_lt_z (pos 0) (entry x c) (λ p. by_lt_z (pos 0) (entry y c) (λ q. absurd (apart x y left right l h g none c p q)) (λ q. inr (only_zero (entry y c) (n c) q)))
+    (λ p. inl (only_zero (entry x c) (m c) p))
+  where
+    only_zero : (a : ℤ) → pos 0 ≤ℤ a → a ≤ℤ pos 0 → a ≡ pos 0
+    only_zero a h k = omega (arith, ints)
+
+-- for up to 64 columns a block is a column
+one_column : (x : List ℤ) (c : ℕ) → length x ≤ 64 → block_of x c ≡ c
+one_column x c few = let e : block_width (length x) ≡ 1 = omega arith in ap (λ n. c / n) e ∙ div-one c
+
+not_disjoint_at : (x y : List ℤ) (k : ℕ) → length x ≡ length y → length x ≤ 64 → HasPositive x k → HasPositive y k → AreDisjoint x y → ⊥
+not_disjoint_at x y k l few first second d =
+    go (subst (λ (c : ℕ). pos 0 <ℤ entry x c) (sym (one_column x first.column few) ∙ first.there) first.positive)
+    (subst (λ (c : ℕ). pos 0 <ℤ entry y c) (sym (one_column y second.column (omega arith)) ∙ second.there) second.positive) (d k)
+  where
+    go : pos 0 <ℤ entry x k → pos 0 <ℤ entry y k → (entry x k ≡ pos 0) ⊎ (entry y k ≡ pos 0) → ⊥
+    go p q (inl e) = omega (arith, ints)
+    go p q (inr e) = omega (arith, ints)
+
+in_both : (left right k : ℕ) → bit_at (bit_and left right) k ≡ 1 → (bit_at left k ≡ 1) × (bit_at right k ≡ 1)
+in_both left right k set =
+    let both : min (bit_at left k) (bit_at right k) ≡ 1 = sym (bit_at_and left right k) ∙ set in
+    (omega (arith, both, bit_at-lt left k, bit_at-lt right k), omega (arith, both, bit_at-lt left k, bit_at-lt right k))
+
+pub not_apart : (x y : List ℤ) (left right : ℕ) → left < 2 ^ 64 → length x ≡ length y → length x ≤ 64 → IsMask x left → IsMask y right → bit_and left right ≢ 0 → AreDisjoint x y → ⊥
+not_apart x y left right fits l few h g some d = go (some_bit (bit_and left right) (omega (arith, and_le_l left right)) some)
+  where
+    go : (k : ℕ) × (k < 64) × (bit_at (bit_and left right) k ≡ 1) → ⊥
+    go (k, low, set) =
+        let bits = in_both left right k set in
+        not_disjoint_at x y k l few (h.covered k bits.0) (g.covered k bits.1) d

@@ -58,7 +58,7 @@ mask_more x n mask few within positive h = record {
     covers c l p (inl e) = same (block_of x c) e
     covers c l p (inr f) =
         bit_at_set_other w64 mask (block_of x n) low (block_of x c) f
-        ∙ h.covers c (elim (cases_eq c n) [ | inl e ↦ absurd (f (ap (block_of x) e)) | inr g ↦ omega arith ]) p
+        ∙ h.covers c (elim (cases_eq c n) [ inl e ↦ absurd (f (ap (block_of x) e)) | inr g ↦ omega arith ]) p
 
     covered : (block : ℕ) → bit_at (with_block mask (block_of x n)) block ≡ 1 → (block ≡ block_of x n) ⊎ (block ≢ block_of x n) → HasPositive x block
     covered block e (inl f) = record { column = n; there = sym f; positive = positive }

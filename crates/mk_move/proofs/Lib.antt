@@ -10,3 +10,4 @@ pub mod Differences
 pub mod Belongings
 pub mod Blocks
 pub mod MaskTests
+pub mod MaskOrders

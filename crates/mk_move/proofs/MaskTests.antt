@@ -18,11 +18,11 @@ some_bit n fits some =
     let (within, set, _) = bit_at-trailing_zeros w64 n (omega (arith, some)) fits in (_, within, set)
 
 -- columns of vectors of as many columns in one block
-same_block : (x y : List ℤ) (c : ℕ) → length x ≡ length y → block_of y c ≡ block_of x c
+pub same_block : (x y : List ℤ) (c : ℕ) → length x ≡ length y → block_of y c ≡ block_of x c
 same_block x y c l = ap (λ (n : ℕ). c / block_width n) (sym l)
 
 -- a mask covers a column of its block
-covered_there : (y : List ℤ) (outer block c : ℕ) → IsMask y outer → block_of y c ≡ block → pos 0 <ℤ entry y c → bit_at outer block ≡ 1
+pub covered_there : (y : List ℤ) (outer block c : ℕ) → IsMask y outer → block_of y c ≡ block → pos 0 <ℤ entry y c → bit_at outer block ≡ 1
 covered_there y outer block c g e p = ap (bit_at outer) (sym e) ∙ g.covers c p
 
 -- a block with an entry of the one, and none of the other: the one doesn't divide the other

@@ -36,10 +36,29 @@ pub fn move_order(a: &Move, b: &Move) -> Ordering
     if a.weight() > b.weight() {
         return Ordering::Greater;
     }
-    match compare_standard(a.entries(), b.entries(), Side::Plus) {
-        Ordering::Equal => compare_standard(a.entries(), b.entries(), Side::Minus),
+    match compare_parts(a, b, Side::Plus) {
+        Ordering::Equal => compare_parts(a, b, Side::Minus),
         decided => decided,
     }
+}
+
+/// The parts of moves on a side in their order by the standard list. Both moves have as many columns.
+fn compare_parts(a: &Move, b: &Move, side: Side) -> Ordering
+    requires { length a.now.entries ≡ length b.now.entries }
+    ensures { MatchOrdering result
+        (IsBelow (standard (length a.now.entries)) (part_of side a.now.entries) (part_of side b.now.entries))
+        (part_of side a.now.entries ≡ part_of side b.now.entries)
+        (IsBelow (standard (length a.now.entries)) (part_of side b.now.entries) (part_of side a.now.entries)) }
+{
+    let left = a.mask(side).leading_zeros();
+    let right = b.mask(side).leading_zeros();
+    if left < right {
+        return Ordering::Less;
+    }
+    if left > right {
+        return Ordering::Greater;
+    }
+    compare_standard(a.entries(), b.entries(), side)
 }
 
 /// The positive parts in their order along the columns.

@@ -23,8 +23,7 @@ pub returns-then-columns-le64 : goal.returns-then-columns-le64
 returns-then-columns-le64 c =
     let at = (goal.at.returns-then-columns-le64 c).After-mask-2 in
     let a = c.args.a.now.entries in
-    let b = c.args.b.now.entries in
-    (
+    let b = c.args.b.now.entries in (
       (λ h. search rules),
       (λ d. absurd (not_apart (positive_part a) (positive_part b) c.mask.result c.mask-2.result (omega arith) (as_many at) (omega (arith, c.columns.ensures.value, c.if-columns-le64.true, length-positive_part a)) c.mask.ensures c.mask-2.ensures c.if-mask-eq0.false d)),
     )

@@ -9,8 +9,7 @@ use Rattle.mk_move.proofs.leads.lead_divides.Goals as goal
 pub returns-then-mask-ne0 : goal.returns-then-mask-ne0
 returns-then-mask-ne0 c =
     let as_many : length (positive_part c.args.v.now.entries) ≡ length (part_of c.args.side c.args.r.now.entries) =
-    length-positive_part c.args.v.now.entries ∙ c.requires ∙ sym (length-part_of c.args.side c.args.r.now.entries) in
-    (
+    length-positive_part c.args.v.now.entries ∙ c.requires ∙ sym (length-part_of c.args.side c.args.r.now.entries) in (
       (λ h. search rules),
       (λ d. absurd (not_dividing (positive_part c.args.v.now.entries) (part_of c.args.side c.args.r.now.entries) c.mask.result c.mask-2.result (omega arith) (omega arith) as_many c.mask.ensures c.mask-2.ensures c.if-mask-ne0.true d)),
     )

@@ -33,10 +33,9 @@ oriented c h e = row_turned c.args.priority.now c.self.inside.entries.items _ c.
 pub invariant_of-self : goal.invariant_of-self
 invariant_of-self c =
     let at = (goal.at.invariant_of-self c).After-first_entry in
-    let after = (goal.at.invariant_of-self c).After-self-1 in
-    (
+    let after = (goal.at.invariant_of-self c).After-self-1 in (
       IsKept-oriented c.self.inside.entries.items c.args.priority.now _ c.self.invariant.0.columns
-      (oriented after (less _ _ (pos 0) _ refl (first_read at) c.if-first_entry-gt0.true) (first_is at)) c.self.invariant.0.entries,
+          (oriented after (less _ _ (pos 0) _ refl (first_read at) c.if-first_entry-gt0.true) (first_is at)) c.self.invariant.0.entries,
       masks_turned c.self.inside.entries.items _ c.self.inside.plus c.self.inside.minus c.swap.new.x c.swap.new.y (turned after) c.swap.ensures.x_after c.swap.ensures.y_after c.self.invariant.1,
     )
 

@@ -1,2 +1,3 @@
 pub mod LeadLists
 pub mod Beginnings
+pub mod Heights

@@ -1,3 +1,5 @@
 pub mod LeadLists
 pub mod Beginnings
 pub mod Heights
+pub mod BasisMoves
+pub mod NextSteps

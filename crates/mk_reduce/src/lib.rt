@@ -3,6 +3,7 @@
 
 mod critical_pair;
 mod plain;
+mod reduction;
 mod step;
 mod stop;
 mod work;

@@ -3,3 +3,5 @@ pub mod Beginnings
 pub mod Heights
 pub mod BasisMoves
 pub mod NextSteps
+pub mod MoreSteps
+pub mod Falls

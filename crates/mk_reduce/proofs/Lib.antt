@@ -5,3 +5,4 @@ pub mod BasisMoves
 pub mod NextSteps
 pub mod MoreSteps
 pub mod Falls
+pub mod Reducing

@@ -1,5 +1,5 @@
 -- One step more keeps the work on a pair, and why one is refused.
-use Rattle.std.proofs.Common.{◌≡◌, ◌≢◌, ◌⊎◌, inl, inr, ℕ, ◌<◌, List, [], ◌∷◌, ◌++◌, length, Option, Some, None, All, ℤ, pos, neg_ℤ, ◌+ℤ◌, ◌-ℤ◌, ◌*ℤ◌, arith, ap, refl, sym, ◌∙◌, subst, ⊎_elim}
+use Rattle.std.proofs.Common.{◌≡◌, ◌⊎◌, inl, inr, ℕ, ◌<◌, List, [], ◌∷◌, ◌++◌, length, Option, Some, All, ℤ, pos, neg_ℤ, ◌+ℤ◌, ◌-ℤ◌, ◌*ℤ◌, arith, ap, refl, sym, ◌∙◌, subst, ⊎_elim, Result, Ok, Err, MatchResult}
 use Rattle.std.proofs.lemmas.Int.{ints}
 use Rattle.std.proofs.lemmas.List.Elements.{All-nil, All-cons, All-push, Contains-get_or}
 use Rattle.mk_model.specs.Vectors.{entry, subtract, add, scale, positive_part, negative_part}
@@ -13,13 +13,13 @@ use Rattle.mk_model.proofs.VectorAlgebra.{lengths, entries, same_vectors}
 use Rattle.mk_model.proofs.Confluence.{reaches_append}
 use Rattle.mk_move.specs.Moves.{Weighed}
 use Rattle.mk_move.specs.MoveLists.{MoveList, vectors_of}
-use Rattle.mk_move.specs.Steps.{IsStepFault}
+use Rattle.mk_move.specs.Steps.{minus_times, TakesOff, IsStepFault}
 use Rattle.mk_move.specs.declared.steps.StepFault.{StepFault}
 use Rattle.mk_move.specs.declared.steps.StepFault.TheVariants.{Memory, Overflow}
 use Rattle.mk_reduce.specs.declared.step.Step.{Step}
-use Rattle.mk_reduce.specs.Works.{TheWork, WorkOf, rest_of, IsStep, after_step, LeadsTo, IsStepMore}
+use Rattle.mk_reduce.specs.Works.{TheWork, WorkOf, rest_of, IsStep, after_step, LeadsTo, IsStepMore, IsRest, Leaves}
 use Rattle.mk_reduce.specs.Stops.{stop_for, IsStepRefused}
-use Rattle.mk_reduce.proofs.Beginnings.{length-vectors_of, first_beyond}
+use Rattle.mk_reduce.proofs.Beginnings.{length-vectors_of, first_beyond, rest_is, rest_graded}
 
 leads_more : (moves : List (List ℤ)) (r : List ℤ) (trace : List Step) (last next : List ℤ) (step : Step) → LeadsTo moves r trace last → IsStep moves last step → next ≡ after_step moves last step → LeadsTo moves r (trace ++ step ∷ []) next
 leads_more moves r [] last next step e h f = (subst (λ x. IsStep moves x step) e h, f ∙ ap (λ x. after_step moves x step) e)
@@ -71,9 +71,6 @@ module _ (basis : MoveList) (work : TheWork) (h : WorkOf work basis) where
     rest = h.rest;
     places = inl (subst (λ (n : ℕ). All (λ (step : Step). step.place < n) work.trace) (length-vectors_of basis.moves) (places_within (vectors_of basis.moves) (difference (vectors_of basis.moves) work.pair) work.trace (rest_of (length basis.grading) work.remainder) h.steps));
   }
-
-  pub work_at_start : work.remainder ≢ None → WorkOf (with_front 0 work) basis
-  work_at_start some = record { pair = h.pair; front = omega arith; steps = h.steps; reduct = h.reduct; rest = h.rest; places = inr (refl, some) }
 
   -- ---- a step
   at_end : (k : ℕ) → k < length (vectors_of basis.moves) → k < length basis.moves
@@ -138,3 +135,14 @@ module _ (basis : MoveList) (work : TheWork) (h : WorkOf work basis) where
       },
     ),
   )
+
+-- what is taken off, and why it isn't
+pub left_or_not : (basis : MoveList) (from : Weighed) (step : Step) (v : List ℤ) (result : Result (Option Weighed) StepFault) → IsRest basis.grading from → IsStep (vectors_of basis.moves) from.entries step →
+    move_at (vectors_of basis.moves) step.place ≡ v → length v ≡ length basis.grading → TakesOff from.entries step.times v basis.grading result →
+    MatchResult result (Leaves basis from step) (IsStepFault from.entries (move_at (vectors_of basis.moves) step.place) step.times)
+left_or_not basis from step v (Ok left) r d e l t = record {
+  taken = d;
+  entries = rest_is from.entries v basis.grading step.times left r.columns t ∙ ap (minus_times from.entries step.times) (sym e);
+  graded = rest_graded from.entries v basis.grading step.times left (omega (arith, lengths, l, r.columns)) t;
+}
+left_or_not basis from step v (Err fault) r d e l t = subst (λ x. IsStepFault from.entries x step.times fault) (sym e) t

@@ -1,6 +1,6 @@
 -- The work on a pair: what is left of the difference of its moves, and the steps that led there. (Sturmfels, chapters 1
 -- and 5: S-pairs and reduction)
-use Rattle.std.specs.Prelude.{◌≡◌, ◌≢◌, ◌⊎◌, ℕ, ◌≤◌, ◌<◌, List, [], ◌∷◌, ◌++◌, length, All, Option, Some, None, IfSome, ℤ}
+use Rattle.std.specs.Prelude.{◌≡◌, ◌≢◌, ◌⊎◌, ℕ, ◌≤◌, ◌<◌, Bool, true, false, List, [], ◌∷◌, ◌++◌, length, All, Option, Some, None, IfSome, ℤ}
 use Rattle.mk_model.specs.Vectors.{zeros}
 use Rattle.mk_model.specs.CoreStates.{Pair, move_at, difference, IsPairOf}
 use Rattle.mk_model.specs.Overflows.{IsTimesDividing}
@@ -65,11 +65,16 @@ pub record WorkOf (work : TheWork) (basis : MoveList) : Type 0 where
   pub rest : IfSome work.remainder (IsRest basis.grading)
   pub places : All (λ step. step.place < work.front) work.trace ⊎ ((work.front ≡ 0) × (work.remainder ≢ None))
 
--- the trace has the earlier steps, and maybe more behind them
-abbrev pub GoesOn : List Step → List Step → Type 0
-GoesOn earlier trace = (more : List Step) × (trace ≡ earlier ++ more)
-
 -- nothing is left, or what is left is normal
 abbrev pub IsReduced : List (List ℤ) → Option Weighed → Type 0
 IsReduced moves None = Unit {0}
 IsReduced moves (Some m) = IsNormal moves m.entries
+
+-- one step more, or none: then it is unchanged, and nothing is left or what is left is normal
+abbrev pub Advances : MoveList → TheWork → TheWork → Bool → Type 0
+Advances basis before after true = IsStepMore basis before after
+Advances basis before after false = (after ≡ before) × IsReduced (vectors_of basis.moves) before.remainder
+
+-- the trace has the earlier steps, and maybe more behind them
+abbrev pub GoesOn : List Step → List Step → Type 0
+GoesOn earlier trace = (more : List Step) × (trace ≡ earlier ++ more)

@@ -10,6 +10,7 @@ mod work;
 
 pub use critical_pair::critical;
 pub use plain::PlainFinder;
+pub use reduction::reduce;
 pub use step::Step;
 pub use stop::Stop;
 pub use work::Work;

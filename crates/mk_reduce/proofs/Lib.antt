@@ -6,3 +6,4 @@ pub mod NextSteps
 pub mod MoreSteps
 pub mod Falls
 pub mod Reducing
+pub mod LongerBases

@@ -1,13 +1,12 @@
 -- One step more keeps the work on a pair, and why one is refused.
-use Rattle.std.proofs.Common.{◌≡◌, ◌⊎◌, inl, inr, ℕ, ◌<◌, List, [], ◌∷◌, ◌++◌, length, Option, Some, All, ℤ, pos, neg_ℤ, ◌+ℤ◌, ◌-ℤ◌, ◌*ℤ◌, arith, ap, refl, sym, ◌∙◌, subst, ⊎_elim, Result, Ok, Err, MatchResult}
+use Rattle.std.proofs.Common.{◌≡◌, ◌⊎◌, inl, inr, ℕ, ◌<◌, List, [], ◌∷◌, ◌++◌, length, Option, All, ℤ, pos, neg_ℤ, ◌+ℤ◌, ◌-ℤ◌, ◌*ℤ◌, arith, ap, sym, ◌∙◌, subst, ⊎_elim, Result, Ok, Err, MatchResult}
 use Rattle.std.proofs.lemmas.Int.{ints}
 use Rattle.std.proofs.lemmas.List.Elements.{All-nil, All-cons, All-push, Contains-get_or}
 use Rattle.mk_model.specs.Vectors.{entry, subtract, add, scale, positive_part, negative_part}
 use Rattle.mk_model.specs.Orders.{lead}
 use Rattle.mk_model.specs.CoreStates.{move_at, difference}
-use Rattle.mk_model.specs.Reductions.{Divides, IsReduction, Reduct}
+use Rattle.mk_model.specs.Reductions.{Divides, IsReduction}
 use Rattle.mk_model.specs.Reductions.Reaches.{here, go}
-use Rattle.mk_model.specs.Overflows.{IsTimesDividing}
 use Rattle.mk_model.proofs.Integers.{neg_ℤ-*ℤ}
 use Rattle.mk_model.proofs.VectorAlgebra.{lengths, entries, same_vectors}
 use Rattle.mk_model.proofs.Confluence.{reaches_append}
@@ -15,11 +14,9 @@ use Rattle.mk_move.specs.Moves.{Weighed}
 use Rattle.mk_move.specs.MoveLists.{MoveList, vectors_of}
 use Rattle.mk_move.specs.Steps.{minus_times, TakesOff, IsStepFault}
 use Rattle.mk_move.specs.declared.steps.StepFault.{StepFault}
-use Rattle.mk_move.specs.declared.steps.StepFault.TheVariants.{Memory, Overflow}
 use Rattle.mk_reduce.specs.declared.step.Step.{Step}
 use Rattle.mk_reduce.specs.Works.{TheWork, WorkOf, rest_of, IsStep, after_step, LeadsTo, IsStepMore, IsRest, Leaves}
-use Rattle.mk_reduce.specs.Stops.{stop_for, IsStepRefused}
-use Rattle.mk_reduce.proofs.Beginnings.{length-vectors_of, first_beyond, rest_is, rest_graded}
+use Rattle.mk_reduce.proofs.Beginnings.{length-vectors_of, rest_is, rest_graded}
 
 leads_more : (moves : List (List ℤ)) (r : List ℤ) (trace : List Step) (last next : List ℤ) (step : Step) → LeadsTo moves r trace last → IsStep moves last step → next ≡ after_step moves last step → LeadsTo moves r (trace ++ step ∷ []) next
 leads_more moves r [] last next step e h f = (subst (λ x. IsStep moves x step) e h, f ∙ ap (λ x. after_step moves x step) e)
@@ -113,28 +110,6 @@ module _ (basis : MoveList) (work : TheWork) (h : WorkOf work basis) where
 
       within : d.step.place < work.front
       within = step_within d.step last taken e
-
-  -- the fault of a step, as that of the work
-  pub step_refused : (m : Weighed) (step : Step) (fault : StepFault) → work.remainder ≡ Some m → IsStep (vectors_of basis.moves) m.entries step → IsStepFault m.entries (move_at (vectors_of basis.moves) step.place) step.times fault → IsStepRefused basis.moves work.pair work.remainder (stop_for fault (Some step.place))
-  step_refused m step Memory e d f = tt
-  step_refused m step (Overflow at) e d f = (
-    m,
-    e,
-    step.place,
-    refl,
-    inr (
-      step.place,
-      refl,
-      record {
-        within = d.within;
-        from = m.entries;
-        operand = refl;
-        reduct = subst (λ (x : Option Weighed). Reduct (vectors_of basis.moves) (difference (vectors_of basis.moves) work.pair) (rest_of (length basis.grading) x)) e h.reduct;
-        step = subst (λ (z : ℤ). IsTimesDividing (move_at (vectors_of basis.moves) step.place) m.entries z) (sym f.times) d.divides;
-        beyond = first_beyond m.entries (move_at (vectors_of basis.moves) step.place) step.times at work.pair (Some m.entries) (Some step.place) f;
-      },
-    ),
-  )
 
 -- what is taken off, and why it isn't
 pub left_or_not : (basis : MoveList) (from : Weighed) (step : Step) (v : List ℤ) (result : Result (Option Weighed) StepFault) → IsRest basis.grading from → IsStep (vectors_of basis.moves) from.entries step →

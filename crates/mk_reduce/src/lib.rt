@@ -3,12 +3,14 @@
 
 mod critical_pair;
 mod plain;
+mod reduction;
 mod step;
 mod stop;
 mod work;
 
 pub use critical_pair::critical;
 pub use plain::PlainFinder;
+pub use reduction::reduce;
 pub use step::Step;
 pub use stop::Stop;
 pub use work::Work;

@@ -1,0 +1,99 @@
+-- The step by a move whose lead divides a part of a vector, and why there is none.
+use Rattle.std.proofs.Common.{◌≡◌, ◌≢◌, inl, inr, ℕ, ◌<◌, List, length, Some, slice_get, get_or, All, ℤ, pos, neg_ℤ, ◌-ℤ◌, arith, ap, sym, ◌∙◌, subst, false, ⊎_elim}
+use mir.Syntax.{w64}
+use mir.Val.{to_z, of_z}
+use lib.Signed.{mag}
+use Rattle.std.proofs.lemmas.Int.{ints}
+use Rattle.std.proofs.lemmas.Option.{slice_get_within}
+use Rattle.std.proofs.lemmas.Bool.{cases_Bool}
+use Rattle.std.proofs.lemmas.List.Elements.{All-map, All-weaker}
+use Rattle.std.proofs.Math.ListN.{get_or-map}
+use Rattle.std.proofs.lemmas.Simd.{map-map}
+use Rattle.mk_model.proofs.VectorAlgebra.{only_zeros, length-positive_part}
+use Rattle.mk_model.proofs.LatticeLaws.{is_zero-entries}
+use Rattle.mk_model.specs.Vectors.{zeros, positive_part, negative_part, IsEntry}
+use Rattle.mk_model.specs.Lattices.{is_zero}
+use Rattle.mk_model.specs.Orders.{lead}
+use Rattle.mk_model.specs.Reductions.{Divides, IsNormal, IsIrreducible}
+use Rattle.mk_model.specs.Overflows.{IsTimesDividing}
+use Rattle.mk_move.specs.Moves.{Weighed, IsKept}
+use Rattle.mk_move.specs.MoveLists.{MoveList, IsBasis, BelongsTo, vectors_of}
+use Rattle.mk_move.specs.Sides.{part_of, IsMostTimes, DividesAt}
+use Rattle.mk_move.proofs.Readings.{entry_read}
+use Rattle.mk_move.specs.declared.side.Side.{Side}
+use Rattle.mk_move.specs.declared.side.Side.TheVariants.{Plus, Minus}
+use Rattle.mk_reduce.specs.Leads.{leads_of}
+use Rattle.mk_reduce.specs.Works.{IsStep}
+use Rattle.mk_reduce.proofs.LeadLists.{lead_at, length-leads_of}
+use Rattle.mk_reduce.proofs.Beginnings.{vector_at, length-vectors_of}
+
+-- the lead at the place is that of the move
+pub divides_at : (moves : List Weighed) (x : List ℤ) (place : ℕ) (m : Weighed) → slice_get moves place ≡ Some m → DividesAt (leads_of moves) x place → Divides (lead m.entries) x
+divides_at moves x place m h d =
+    let e : Some d.lead ≡ Some (lead m.entries) = sym d.at ∙ lead_at moves place m h in
+    let same : d.lead ≡ lead m.entries = cc in
+    subst (λ v. Divides v x) same d.divides
+
+-- so many times, negative on the side of the negative part
+abbrev pub signed : Side → ℤ → ℤ
+signed Plus times = times
+signed Minus times = neg_ℤ times
+
+pub times_on : (m r : List ℤ) (side : Side) (times : ℤ) → IsMostTimes (lead m) (part_of side r) times → IsTimesDividing m r (signed side times)
+times_on m r Plus times h = record { count = h.count; some = h.some; divides = inl (h.value, h.divides) }
+times_on m r Minus times h = record { count = h.count; some = h.some; divides = inr (ap neg_ℤ h.value, h.divides) }
+
+pub step_on : (moves : List Weighed) (r : List ℤ) (place : ℕ) (m : Weighed) (side : Side) (times : ℤ) → slice_get moves place ≡ Some m → IsMostTimes (lead m.entries) (part_of side r) times →
+    IsStep (vectors_of moves) r (record { times = signed side times; place = place })
+step_on moves r place m side times h d = record {
+  within = omega (arith, slice_get_within moves place m h, length-vectors_of moves);
+  divides = subst (λ v. IsTimesDividing v r (signed side times)) (sym (vector_at moves place m h)) (times_on m.entries r side times d);
+}
+
+-- the number of times, as the code has it
+pub times_are_entry : (times : ℤ) (x y : List ℤ) → mag times < 9223372036854775808 → IsMostTimes x y times → IsEntry times
+times_are_entry times x y h d =
+    let l : d.count < 9223372036854775808 = subst (λ (z : ℤ). mag z < 9223372036854775808) d.value h in
+    let range : IsEntry (pos d.count) = (omega (arith, ints), omega (arith, ints)) in
+    subst IsEntry (sym d.value) range
+
+pub minus_read : (times : ℤ) → IsEntry times → to_z w64 (of_z w64 (pos 0 -ℤ to_z w64 (of_z w64 times))) ≡ neg_ℤ times
+minus_read times h =
+    let range : IsEntry (neg_ℤ times) = (omega (arith, ints, h.0, h.1), omega (arith, ints, h.0, h.1)) in
+    let same : pos 0 -ℤ times ≡ neg_ℤ times = omega (arith, ints) in
+    ap (λ z. to_z w64 (of_z w64 (pos 0 -ℤ z))) (entry_read times h) ∙ ap (λ z. to_z w64 (of_z w64 z)) same ∙ entry_read (neg_ℤ times) range
+
+-- the steps that the code makes
+pub plus_step : (moves : List Weighed) (r : List ℤ) (place : ℕ) (m : Weighed) (side : Side) (times : ℤ) → side ≡ Plus → mag times < 9223372036854775808 → slice_get moves place ≡ Some m → IsMostTimes (lead m.entries) (part_of side r) times →
+    IsStep (vectors_of moves) r (record { times = to_z w64 (of_z w64 times); place = place })
+plus_step moves r place m side times e l h d =
+    let read = entry_read times (times_are_entry times (lead m.entries) (part_of side r) l d) in
+    subst (λ (z : ℤ). IsStep (vectors_of moves) r (record { times = z; place = place })) (ap (λ s. signed s times) e ∙ sym read) (step_on moves r place m side times h d)
+
+pub minus_step : (moves : List Weighed) (r : List ℤ) (place : ℕ) (m : Weighed) (side : Side) (times : ℤ) → side ≡ Minus → mag times < 9223372036854775808 → slice_get moves place ≡ Some m → IsMostTimes (lead m.entries) (part_of side r) times →
+    IsStep (vectors_of moves) r (record { times = to_z w64 (of_z w64 (pos 0 -ℤ to_z w64 (of_z w64 times))); place = place })
+minus_step moves r place m side times e l h d =
+    let read = minus_read times (times_are_entry times (lead m.entries) (part_of side r) l d) in
+    subst (λ (z : ℤ). IsStep (vectors_of moves) r (record { times = z; place = place })) (ap (λ s. signed s times) e ∙ sym read) (step_on moves r place m side times h d)
+
+-- ---- where there is none
+pub lead_columns : (basis : MoveList) (r : List ℤ) → IsBasis basis → length r ≡ length basis.grading → All (λ (x : List ℤ). length x ≡ length r) (leads_of basis.moves)
+lead_columns basis r h l =
+    All-map (λ (x : List ℤ). length x ≡ length r) (λ (m : Weighed). lead m.entries) basis.moves
+    (All-weaker (BelongsTo basis.priority basis.grading) (λ (m : Weighed). length (lead m.entries) ≡ length r) (λ m b. length-positive_part m.entries ∙ b.columns ∙ h.columns ∙ sym l) basis.moves h.moves)
+
+not_zero : (r : List ℤ) → r ≢ zeros (length r) → is_zero r ≡ false
+not_zero r h = ⊎_elim (λ e. absurd (h (only_zeros r (is_zero-entries r e)))) (λ e. e) (cases_Bool (is_zero r))
+
+irreducible : (moves : List Weighed) (x : List ℤ) → All (λ (l : List ℤ). ¬ (Divides l x)) (leads_of moves) → IsIrreducible (vectors_of moves) x
+irreducible moves x h v (k, l, e) d =
+    let at : get_or (leads_of moves) k (lead v) ≡ lead v =
+    ap (λ (z : List (List ℤ)). get_or z k (lead v)) (sym (map-map (λ (u : List ℤ). lead u) (λ (m : Weighed). m.entries) moves)) ∙ get_or-map (λ (u : List ℤ). lead u) (vectors_of moves) k v ∙ ap (λ (u : List ℤ). lead u) e in
+    h k (lead v) (omega (arith, length-vectors_of moves, length-leads_of moves)) (subst (λ (u : List ℤ). Divides u x) (sym at) d)
+
+pub normal : (moves : List Weighed) (m : Weighed) → IsKept m → All (λ (l : List ℤ). ¬ (Divides l (part_of Plus m.entries))) (leads_of moves) → All (λ (l : List ℤ). ¬ (Divides l (part_of Minus m.entries))) (leads_of moves) → IsNormal (vectors_of moves) m.entries
+normal moves m k h j = record {
+  not_zero = not_zero m.entries k.not_zero;
+  positive = irreducible moves (positive_part m.entries) h;
+  negative = irreducible moves (negative_part m.entries) j;
+}

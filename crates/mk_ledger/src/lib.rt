@@ -3,11 +3,18 @@
 #![tactic(auto)]
 
 mod bits;
+mod claim;
 mod frontier;
+mod halt;
+mod held;
 mod journal;
+mod ledger;
 mod numbers;
 
 pub use bits::SettledBits;
+pub use claim::Claim;
 pub use frontier::Frontier;
+pub use halt::{Halt, OverflowStop};
 pub use journal::{Journal, JournalEntry, Kind};
+pub use ledger::Ledger;
 pub use numbers::pair_number;

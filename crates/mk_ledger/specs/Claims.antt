@@ -14,10 +14,11 @@ pub record IsNotYet (state : CoreState) (holder : ℕ) (pair : Pair) : Type 0 wh
   pub all_claimed : (other : Pair) → ¬ (IsFree state other)
   pub least : (other : Pair) → IsPairOf state.basis other → ¬ (IsSettled state.journal other) → ¬ (IsLesser other pair)
 
--- A pair is free, and as many claims were made as the budget has.
+-- A pair is free, as many claims were made as the budget has, and none of them was given up.
 pub record IsOverBudget (state : CoreState) (made : ℕ) : Type 0 where
   pub all : made ≡ state.claims_made
   pub used_up : state.claims_made ≡ state.budget
+  pub none_given_up : state.claims_given_up ≡ 0
   pub pair : Pair
   pub free : IsFree state pair
 

@@ -1,2 +1,3 @@
 pub mod PairNumbers
 pub mod Words
+pub mod InOrder

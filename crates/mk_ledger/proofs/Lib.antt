@@ -1,3 +1,4 @@
 pub mod PairNumbers
 pub mod Words
 pub mod InOrder
+pub mod HeldClaims

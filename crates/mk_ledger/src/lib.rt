@@ -4,6 +4,7 @@
 
 mod bits;
 mod claim;
+mod claims;
 mod frontier;
 mod halt;
 mod held;

@@ -1,0 +1,64 @@
+-- The least of the claims, one worker after another.
+use Rattle.std.proofs.Common.{◌≡◌, ◌⊎◌, inl, inr, ℕ, ◌+◌, ◌<◌, ◌≤◌, List, length, get_or, Option, None, Some, arith, sym, ap, ◌∙◌, subst, ⊎_elim}
+use Rattle.std.proofs.lemmas.Bool.{cases_lt}
+use Rattle.std.proofs.lemmas.Option.{none-some, same_Some}
+use Rattle.std.proofs.lemmas.List.{get_or_past}
+use Rattle.mk_model.specs.CoreStates.{Pair, IsLesser}
+use Rattle.mk_ledger.specs.HeldClaims.{NoneHeld, IsLeastHeld, IsLeastOf}
+
+lesser_trans : (p q r : Pair) → IsLesser p q → IsLesser q r → IsLesser p r
+lesser_trans p q r (inl h) (inl k) = inl (omega (arith, h, k))
+lesser_trans p q r (inl h) (inr (e, k)) = inl (omega (arith, h, e))
+lesser_trans p q r (inr (e, h)) (inl k) = inl (omega (arith, e, k))
+lesser_trans p q r (inr (e, h)) (inr (f, k)) = inr (e ∙ f, omega (arith, h, k))
+
+not_itself : (p : Pair) → ¬ (IsLesser p p)
+not_itself p (inl h) = omega (arith, h)
+not_itself p (inr (e, h)) = omega (arith, h)
+
+last_or_before : (i n : ℕ) → i < n + 1 → (i < n) ⊎ (i ≡ n)
+last_or_before i n l = ⊎_elim inl (λ h. inr (omega (arith, l, h))) (cases_lt i n)
+
+module _ (claims : List (Option Pair)) (worker : ℕ) where
+  none_more : NoneHeld claims worker → get_or claims worker None ≡ None → NoneHeld claims (worker + 1)
+  none_more h e i l = ⊎_elim (λ k. h i k) (λ f. ap (λ k. get_or claims k None) f ∙ e) (last_or_before i worker l)
+
+  idle_more : (least : ℕ × Pair) → IsLeastHeld claims worker least.0 least.1 → get_or claims worker None ≡ None → IsLeastHeld claims (worker + 1) least.0 least.1
+  idle_more least h e = record {
+    held = h.held;
+    least = λ i q l f. ⊎_elim (λ k. h.least i q k f) (λ k. absurd (none-some q (sym e ∙ ap (λ i. get_or claims i None) (sym k) ∙ f))) (last_or_before i worker l);
+  }
+
+  -- a worker more without a claim
+  pub least_idle : (least : Option (ℕ × Pair)) → IsLeastOf claims worker least → get_or claims worker None ≡ None → IsLeastOf claims (worker + 1) least
+  least_idle None h e = none_more h e
+  least_idle (Some least) h e = idle_more least h e
+
+  -- the first claim
+  pub least_first : (pair : Pair) → NoneHeld claims worker → get_or claims worker None ≡ Some pair → IsLeastHeld claims (worker + 1) worker pair
+  least_first pair h e = record {
+    held = e;
+    least = λ i q l f. ⊎_elim (λ k. absurd (none-some q (sym (h i k) ∙ f))) (λ k. λ lesser. not_itself pair (subst (λ p. IsLesser p pair) (sym (same_Some pair q (sym e ∙ ap (λ i. get_or claims i None) (sym k) ∙ f))) lesser)) (last_or_before i worker l);
+  }
+
+  -- a claim that isn't lesser
+  pub least_kept : (known : ℕ) (least pair : Pair) → IsLeastHeld claims worker known least → get_or claims worker None ≡ Some pair → ¬ (IsLesser pair least) → IsLeastHeld claims (worker + 1) known least
+  least_kept known least pair h e apart = record {
+    held = h.held;
+    least = λ i q l f. ⊎_elim (λ k. h.least i q k f) (λ k. λ lesser. apart (subst (λ p. IsLesser p least) (sym (same_Some pair q (sym e ∙ ap (λ i. get_or claims i None) (sym k) ∙ f))) lesser)) (last_or_before i worker l);
+  }
+
+  -- a lesser claim
+  pub least_taken : (known : ℕ) (least pair : Pair) → IsLeastHeld claims worker known least → get_or claims worker None ≡ Some pair → IsLesser pair least → IsLeastHeld claims (worker + 1) worker pair
+  least_taken known least pair h e lesser = record {
+    held = e;
+    least = λ i q l f. ⊎_elim (λ k. λ less. h.least i q k f (lesser_trans q pair least less lesser)) (λ k. λ less. not_itself pair (subst (λ p. IsLesser p pair) (sym (same_Some pair q (sym e ∙ ap (λ i. get_or claims i None) (sym k) ∙ f))) less)) (last_or_before i worker l);
+  }
+
+-- ---- all workers
+pub none_of_all : (claims : List (Option Pair)) → NoneHeld claims (length claims) → (worker : ℕ) → get_or claims worker None ≡ None
+none_of_all claims h worker = ⊎_elim (λ l. h worker l) (λ l. get_or_past claims worker None l) (cases_lt worker (length claims))
+
+pub least_of_all : (claims : List (Option Pair)) (worker : ℕ) (pair : Pair) → IsLeastHeld claims (length claims) worker pair → (other : ℕ) (q : Pair) → get_or claims other None ≡ Some q → ¬ (IsLesser q pair)
+least_of_all claims worker pair h other q e =
+    ⊎_elim (λ l. h.least other q l e) (λ l. absurd (none-some q (sym (get_or_past claims other None l) ∙ e))) (cases_lt other (length claims))

@@ -20,34 +20,6 @@ last_or_before : (i n : ℕ) → i < n + 1 → (i < n) ⊎ (i ≡ n)
 last_or_before i n l = ⊎_elim inl (λ h. inr (omega (arith, l, h))) (cases_lt i n)
 
 module _ (claims : List (Option Pair)) (worker : ℕ) where
-  none_more : NoneHeld claims worker → get_or claims worker None ≡ None → NoneHeld claims (worker + 1)
-  none_more h e i l = ⊎_elim (λ k. h i k) (λ f. ap (λ k. get_or claims k None) f ∙ e) (last_or_before i worker l)
-
-  idle_more : (least : ℕ × Pair) → IsLeastHeld claims worker least.0 least.1 → get_or claims worker None ≡ None → IsLeastHeld claims (worker + 1) least.0 least.1
-  idle_more least h e = record {
-    held = h.held;
-    least = λ i q l f. ⊎_elim (λ k. h.least i q k f) (λ k. absurd (none-some q (sym e ∙ ap (λ i. get_or claims i None) (sym k) ∙ f))) (last_or_before i worker l);
-  }
-
-  -- a worker more without a claim
-  pub least_idle : (least : Option (ℕ × Pair)) → IsLeastOf claims worker least → get_or claims worker None ≡ None → IsLeastOf claims (worker + 1) least
-  least_idle None h e = none_more h e
-  least_idle (Some least) h e = idle_more least h e
-
-  -- the first claim
-  pub least_first : (pair : Pair) → NoneHeld claims worker → get_or claims worker None ≡ Some pair → IsLeastHeld claims (worker + 1) worker pair
-  least_first pair h e = record {
-    held = e;
-    least = λ i q l f. ⊎_elim (λ k. absurd (none-some q (sym (h i k) ∙ f))) (λ k. λ lesser. not_itself pair (subst (λ p. IsLesser p pair) (sym (same_Some pair q (sym e ∙ ap (λ i. get_or claims i None) (sym k) ∙ f))) lesser)) (last_or_before i worker l);
-  }
-
-  -- a claim that isn't lesser
-  pub least_kept : (known : ℕ) (least pair : Pair) → IsLeastHeld claims worker known least → get_or claims worker None ≡ Some pair → ¬ (IsLesser pair least) → IsLeastHeld claims (worker + 1) known least
-  least_kept known least pair h e apart = record {
-    held = h.held;
-    least = λ i q l f. ⊎_elim (λ k. h.least i q k f) (λ k. λ lesser. apart (subst (λ p. IsLesser p least) (sym (same_Some pair q (sym e ∙ ap (λ i. get_or claims i None) (sym k) ∙ f))) lesser)) (last_or_before i worker l);
-  }
-
   -- a lesser claim
   pub least_taken : (known : ℕ) (least pair : Pair) → IsLeastHeld claims worker known least → get_or claims worker None ≡ Some pair → IsLesser pair least → IsLeastHeld claims (worker + 1) worker pair
   least_taken known least pair h e lesser = record {

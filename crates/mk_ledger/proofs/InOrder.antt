@@ -103,9 +103,18 @@ module _ {state : CoreState} (order : AreInOrder state) where
     least = λ other h s. ⊎_elim (λ t. absurd (s t)) (λ (w, f). least w other f) (all_of_basis all l other h);
   }
 
-  pub over_budget : {n : ℕ} {priority : List ℕ} → IsLegal n priority state → state.first_halted ≡ None → (pair : Pair) → IsPairOf state.basis pair → number_of pair ≡ state.claims_made →
+  pub over_budget : {n : ℕ} {priority : List ℕ} → IsLegal n priority state → state.first_halted ≡ None → state.claims_made < pairs_of (length state.basis) →
       state.budget ≤ state.claims_made → IsOverBudget state state.claims_made
-  over_budget legal no_halt pair h e l = record { all = refl; used_up = omega (arith, l, legal.claims_within); none_given_up = (all_taken no_halt).none_given_up; pair = pair; free = free_from pair h (omega (arith, e)) }
+  over_budget legal no_halt left l = record {
+    all = refl;
+    used_up = omega (arith, l, legal.claims_within);
+    none_given_up = (all_taken no_halt).none_given_up;
+    pair = pair_of next.first next.second;
+    free = free_from (pair_of next.first next.second) (record { ordered = next.ordered; within = next.within }) (omega (arith, next.number_is));
+  }
+    where
+      next : HasNumber (length state.basis) state.claims_made
+      next = pair_of_number (length state.basis) state.claims_made left
 
   pub is_claim : (worker : ℕ) (pair : Pair) → worker < state.workers → state.first_halted ≡ None → claim_of state worker ≡ None → state.claims_made < state.budget →
       IsPairOf state.basis pair → number_of pair ≡ state.claims_made → IsClaim state worker (with_claim state worker pair)

@@ -2,3 +2,4 @@ pub mod PairNumbers
 pub mod Words
 pub mod InOrder
 pub mod HeldClaims
+pub mod Claiming

@@ -1,10 +1,10 @@
 -- The least of the claims, one worker after another.
-use Rattle.std.proofs.Common.{◌≡◌, ◌⊎◌, inl, inr, ℕ, ◌+◌, ◌<◌, ◌≤◌, List, length, get_or, Option, None, Some, arith, sym, ap, ◌∙◌, subst, ⊎_elim}
+use Rattle.std.proofs.Common.{◌≡◌, ◌⊎◌, inl, inr, ℕ, ◌+◌, ◌<◌, List, length, get_or, Option, None, Some, arith, sym, ap, ◌∙◌, subst, ⊎_elim}
 use Rattle.std.proofs.lemmas.Bool.{cases_lt}
 use Rattle.std.proofs.lemmas.Option.{none-some, same_Some}
 use Rattle.std.proofs.lemmas.List.{get_or_past}
 use Rattle.mk_model.specs.CoreStates.{Pair, IsLesser}
-use Rattle.mk_ledger.specs.HeldClaims.{NoneHeld, IsLeastHeld, IsLeastOf}
+use Rattle.mk_ledger.specs.HeldClaims.{NoneHeld, IsLeastHeld}
 
 lesser_trans : (p q r : Pair) → IsLesser p q → IsLesser q r → IsLesser p r
 lesser_trans p q r (inl h) (inl k) = inl (omega (arith, h, k))

@@ -171,3 +171,6 @@ ended_counts {state = state} order end = (⊎_elim (λ (t : AreAllTaken state). 
     open_pair p =
         let pair : Pair = pair_of p.first p.second in
         omega (arith, p.number_is, order.settled pair (end.all_settled pair (record { ordered = p.ordered; within = p.within })))
+
+pub not_ended : {state : CoreState} → AreInOrder state → state.claims_made < pairs_of (length state.basis) → ¬ (IsEnded state)
+not_ended order l end = omega (arith, l, (ended_counts order end).1)

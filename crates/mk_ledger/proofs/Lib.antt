@@ -3,3 +3,4 @@ pub mod Words
 pub mod InOrder
 pub mod HeldClaims
 pub mod Claiming
+pub mod SettledPairs

@@ -5,3 +5,4 @@ pub mod Ledgers
 pub mod Claims
 pub mod LedgerFields
 pub mod HeldClaims
+pub mod FirstHalts

@@ -2,7 +2,7 @@ ghost use Rattle.std.specs.Prelude.{◌≡◌, ℕ, ◌+◌, ◌<◌, ◌≤◌,
 ghost use Rattle.mk_model.specs.CoreStates.{claim_of, IsLesser};
 ghost use Rattle.mk_ledger.specs.PairFlags.{pairs_of};
 ghost use Rattle.mk_ledger.specs.Claims.{IsAnswered};
-ghost use Rattle.mk_ledger.specs.HeldClaims.{MayClaim, IsLeastOf};
+ghost use Rattle.mk_ledger.specs.HeldClaims.{MayClaim, NoneHeld, IsLeastOf};
 
 use crate::claim::Claim;
 use crate::held::Held;
@@ -86,6 +86,14 @@ fn with_next(claims: &[Option<Held>], least: Option<(u32, Held)>, worker: u32) -
             }
         }
     }
+}
+
+/// Whether no worker has a claim.
+pub(crate) fn none_held(claims: &[Option<Held>]) -> bool
+    requires { length claims.now ≤ 64 }
+    ensures { IsTrue result ↔ NoneHeld claims.now (length claims.now) }
+{
+    least_claim(claims).is_none()
 }
 
 /// The least of the claims with its worker, or none where no worker has a claim.

@@ -11,6 +11,7 @@ mod held;
 mod journal;
 mod ledger;
 mod numbers;
+mod readings;
 
 pub use bits::SettledBits;
 pub use claim::Claim;

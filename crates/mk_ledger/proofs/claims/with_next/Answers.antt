@@ -1,4 +1,4 @@
-use Rattle.std.proofs.Common.{◌≡◌, ◌<◌, length, get_or, None, Some, sym, ◌∙◌, subst, rules}
+use Rattle.std.proofs.Common.{◌≡◌, get_or, None, Some, ◌∙◌, subst, rules}
 use Rattle.std.proofs.lemmas.List.{get_or_default}
 use Rattle.mk_model.specs.CoreStates.{IsLesser}
 use Rattle.mk_ledger.specs.HeldClaims.{IsLeastHeld, IsLeastOf}

@@ -4,3 +4,4 @@ pub mod InOrder
 pub mod HeldClaims
 pub mod Claiming
 pub mod SettledPairs
+pub mod Beginnings

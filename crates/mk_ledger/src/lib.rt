@@ -2,6 +2,7 @@
 //! settled how.
 #![tactic(auto)]
 
+mod beginning;
 mod bits;
 mod claim;
 mod claims;

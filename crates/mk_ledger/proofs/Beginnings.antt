@@ -1,9 +1,9 @@
 -- The fields of a ledger that begins.
-use Rattle.std.proofs.Common.{◌≡◌, ◌≢◌, ◌⊎◌, inl, inr, ℕ, ◌+◌, ◌<◌, ◌≤◌, Bool, true, false, List, [], length, get_or, replicate, Option, None, Some, ℤ, arith, refl, sym, ap, ◌∙◌, subst, ⊎_elim}
+use Rattle.std.proofs.Common.{◌≡◌, inl, ℕ, ◌≤◌, false, List, [], length, get_or, replicate, Option, None, ℤ, arith, refl, sym, ap, ◌∙◌, subst, ⊎_elim}
 use Rattle.std.proofs.lemmas.Bool.{cases_lt, false≢true}
 use Rattle.std.proofs.lemmas.Option.{none-some}
 use Rattle.std.proofs.lemmas.List.{length-map, length-replicate, get_or-replicate, get_or_past}
-use Rattle.mk_model.specs.CoreStates.{Pair, Settle, Halt, CoreState, claim_of, new_state, IsPairOf, IsSettled, IsClaimed}
+use Rattle.mk_model.specs.CoreStates.{Pair, Settle, Halt, CoreState, new_state, IsSettled, IsClaimed}
 use Rattle.mk_model.specs.Legal.{IsLegal}
 use Rattle.mk_model.proofs.Lists.{Contains-none}
 use Rattle.mk_model.proofs.LegalEvents.{new_is_legal}

@@ -5,3 +5,4 @@ pub mod HeldClaims
 pub mod Claiming
 pub mod SettledPairs
 pub mod Beginnings
+pub mod FirstHalts

@@ -12,6 +12,7 @@ mod held;
 mod journal;
 mod ledger;
 mod numbers;
+mod parts;
 mod readings;
 
 pub use bits::SettledBits;
@@ -21,3 +22,4 @@ pub use halt::{Halt, OverflowStop};
 pub use journal::{Journal, JournalEntry, Kind};
 pub use ledger::Ledger;
 pub use numbers::pair_number;
+pub use parts::LedgerParts;

@@ -1,4 +1,4 @@
-use Rattle.std.proofs.Common.{◌+◌, ◌-◌, ◌/◌, length, ap, ◌∙◌}
+use Rattle.std.proofs.Common.{◌+◌, ◌-◌, ◌/◌, length, ap}
 use Rattle.mk_ledger.specs.PairFlags.{pairs_of}
 use Rattle.mk_ledger.proofs.Words.{fresh, flags_fresh}
 use Rattle.mk_ledger.proofs.bits.SettledBits.of_moves.Goals as goal

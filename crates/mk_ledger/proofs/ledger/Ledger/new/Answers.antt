@@ -1,11 +1,9 @@
 use Rattle.std.proofs.Common.{◌≡◌, length, replicate, false, None, ap, sym, ◌∙◌}
 use Rattle.std.proofs.lemmas.List.{length-map}
-use Rattle.mk_model.specs.CoreStates.{new_state}
 use Rattle.mk_move.specs.Moves.{Weighed}
 use Rattle.mk_move.specs.MoveLists.{vectors_of}
 use Rattle.mk_ledger.specs.PairFlags.{PairFlags, pairs_of}
 use Rattle.mk_ledger.specs.Entries.{settles_of}
-use Rattle.mk_ledger.specs.LedgerFields.{ledger_of}
 use Rattle.mk_ledger.specs.declared.ledger.Ledger.TheInside.{Inside}
 use Rattle.mk_ledger.proofs.Beginnings.{begun, new_fields}
 use Rattle.mk_ledger.proofs.ledger.Ledger.new.Goals as goal

@@ -13,7 +13,13 @@ use std::alloc::Global;
 impl Ledger {
     /// A completion of the moves of a basis that begins: no pair is settled, and no worker has a claim or a halt. At most so
     /// many claims may be made, the basis may have at most so many moves, and there are 1 to 64 workers.
-    pub fn new(alloc: Global, start: Basis, budget: u64, basis_limit: u32, workers: u32) -> Result<Ledger, NoMemory>
+    pub fn new(
+        alloc: Global,
+        start: Basis,
+        budget: u64,
+        basis_limit: u32,
+        workers: u32,
+    ) -> Result<Ledger, NoMemory>
         requires room { length start.moves ≤ basis_limit }
         requires limit { basis_limit ≤ 65536 }
         requires some { 1 ≤ workers }

@@ -67,7 +67,11 @@ fn is_lesser(held: Held, other: Held) -> bool
 }
 
 /// The least claim of the workers before this one and this one.
-fn with_next(claims: &[Option<Held>], least: Option<(u32, Held)>, worker: u32) -> Option<(u32, Held)>
+fn with_next(
+    claims: &[Option<Held>],
+    least: Option<(u32, Held)>,
+    worker: u32,
+) -> Option<(u32, Held)>
     requires within { worker < length claims.now }
     requires before { IsLeastOf claims.now worker least }
     ensures { IsLeastOf claims.now (worker + 1) result }

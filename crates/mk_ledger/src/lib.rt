@@ -23,3 +23,6 @@ pub use journal::{Journal, JournalEntry, Kind};
 pub use ledger::Ledger;
 pub use numbers::pair_number;
 pub use parts::LedgerParts;
+
+#[cfg(test)]
+mod tests;

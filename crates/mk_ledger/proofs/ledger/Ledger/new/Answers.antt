@@ -26,7 +26,7 @@ invariant_of-result c =
     } in
     let size : length (vectors_of c.args.start.moves) ≡ length c.args.start.moves = length-map c.args.start.moves (λ (m : Weighed). m.entries) in
     let first = begun (vectors_of c.args.start.moves) c.args.budget c.args.basis_limit c.args.workers c.len-start_len.result c.new-2.result (settles_of c.new.result) c.in_ok-claims.claims.items c.in_ok-halts.halts.items
-        (c.len-start_len.ensures.value ∙ sym size) (ap settles_of c.new.ensures) c.in_ok-claims.ensures c.new-2.ensures c.in_ok-halts.ensures in
+    (c.len-start_len.ensures.value ∙ sym size) (ap settles_of c.new.ensures) c.in_ok-claims.ensures c.new-2.ensures c.in_ok-halts.ensures in
     new_fields fields first c.len-start_len.ensures.kept (record { room = c.requires.room; bounded = c.requires.limit; some = c.requires.some; few = c.requires.few })
     (ap (λ (f : PairFlags). f.moves) c.in_ok-settled.ensures ∙ c.len-start_len.ensures.value)
     (ap (λ (f : PairFlags). f.flags) c.in_ok-settled.ensures ∙ ap (λ n. replicate (pairs_of n) false) c.len-start_len.ensures.value)

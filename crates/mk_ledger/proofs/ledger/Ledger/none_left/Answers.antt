@@ -14,7 +14,7 @@ returns-in-Some c =
     let same = c.deref.ensures.value ∙ ap (λ (l : TheLedger). l.state.claims) c.self.view_is in
     let here : pair_of c.held.inside.i c.held.inside.j ≡ c.in-Some.held = cc in
     let least : IsLeastHeld now.state.claims (length now.state.claims) c.in-Some.worker (pair_of c.held.inside.i c.held.inside.j) =
-        subst (λ (p : Pair). IsLeastHeld now.state.claims (length now.state.claims) c.in-Some.worker p) (sym here) (subst (λ claims. IsLeastHeld claims (length claims) c.in-Some.worker c.in-Some.held) same c.in-Some.ensures) in
+    subst (λ (p : Pair). IsLeastHeld now.state.claims (length now.state.claims) c.in-Some.worker p) (sym here) (subst (λ claims. IsLeastHeld claims (length claims) c.in-Some.worker c.in-Some.held) same c.in-Some.ensures) in
     λ worker. (
       c.requires.no_halt,
       not_yet order kept.legal (all_taken order c.requires.no_halt) c.requires.all c.in-Some.worker (pair_of c.held.inside.i c.held.inside.j) least.held

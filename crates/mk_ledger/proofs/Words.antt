@@ -151,3 +151,19 @@ filled_room words others pairs e =
     let n : ℕ = (pairs + 63) / 64 - length words in
     let size : length others ≡ length words + n = ap length e ∙ length-append words (replicate n 0) ∙ ap (λ k. length words + k) (length-replicate n 0) in
     omega (arith, size, div-add-mod' (pairs + 63) 64, mod_below (pairs + 63) 64 (omega arith))
+
+-- ---- words of zeros alone
+zeros_alone : (old words : List ℕ) (n k : ℕ) → old ≡ [] → words ≡ old ++ replicate n 0 → flag_at words k ≡ false
+zeros_alone old words n k none e = ap (λ ws. flag_at ws k) e ∙ flag_zeros old n k ∙ ap (λ ws. flag_at ws k) none ∙ flag_without_words k
+
+pub fresh : (old words : List ℕ) (moves : ℕ) → moves ≤ 65536 → old ≡ [] → words ≡ old ++ replicate ((pairs_of moves + 63) / 64 - length old) 0 → AreWords words moves
+fresh old words moves l none e = record {
+  few = l;
+  room = filled_room old words (pairs_of moves) e;
+  clear = λ k _. zeros_alone old words ((pairs_of moves + 63) / 64 - length old) k none e;
+}
+
+pub flags_fresh : (old words : List ℕ) (n count : ℕ) → old ≡ [] → words ≡ old ++ replicate n 0 → flags_of words count ≡ replicate count false
+flags_fresh old words n count none e =
+    let z : 0 + count ≡ count = omega arith in
+    ap (flags_of words) (sym z) ∙ flags_clear words 0 count (λ k _. zeros_alone old words n k none e)

@@ -1,2 +1,8 @@
 pub mod PairFlags
 pub mod Entries
+pub mod Halts
+pub mod Ledgers
+pub mod Claims
+pub mod LedgerFields
+pub mod HeldClaims
+pub mod FirstHalts

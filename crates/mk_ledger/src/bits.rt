@@ -1,5 +1,5 @@
-ghost use Rattle.std.specs.Prelude.{◌≡◌, ◌+◌, ◌-◌, ◌<◌, ◌++◌, [], true, false, length, replicate, OnOk, OnErr, slice_index_or, slice_set};
-ghost use Rattle.mk_ledger.specs.PairFlags.{pair_number};
+ghost use Rattle.std.specs.Prelude.{◌≡◌, ◌+◌, ◌-◌, ◌<◌, ◌≤◌, ◌++◌, [], true, false, length, replicate, IfOk, OnOk, OnErr, slice_index_or, slice_set};
+ghost use Rattle.mk_ledger.specs.PairFlags.{pairs_of, pair_number};
 
 use crate::numbers::{pair_number, pairs_of};
 use mk_model::NoMemory;
@@ -32,6 +32,17 @@ impl SettledBits {
             words: Vec::new(alloc),
             moves: 0,
         }
+    }
+
+    /// So many moves, at most 65,536, none of whose pairs is settled.
+    pub fn of_moves(alloc: Global, moves: u32) -> Result<SettledBits, NoMemory>
+        requires { moves ≤ 65536 }
+        ensures { IfOk result (λ bits. bits ≡ record { moves = moves; flags = replicate (pairs_of moves) false }) }
+    {
+        let needed = ((pairs_of(moves) + 63) / 64) as usize;
+        let mut words = Vec::new(alloc);
+        fit(&mut words, needed)?;
+        Ok(SettledBits { words, moves })
     }
 
     /// How many moves there are: at most 65,536.

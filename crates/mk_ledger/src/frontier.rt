@@ -1,6 +1,7 @@
 ghost use Rattle.std.specs.Prelude.{◌≡◌, ◌+◌, ◌<◌, ◌≤◌, ◌↔◌, IsTrue};
 ghost use Rattle.mk_ledger.specs.PairFlags.{pairs_of, pair_number};
 
+use crate::numbers::pair_number;
 use std::marker::Model;
 
 /// The pair of the next claim. Claims go through the pairs in the order of their numbers, so it is seen as a number: no
@@ -37,6 +38,13 @@ impl Frontier {
         ensures number { pair_number result.0 result.1 ≡ self.now }
     {
         (self.i, self.j)
+    }
+
+    /// The number of the pair: fewer than 2^63.
+    pub fn number(&self) -> u64
+        ensures { result ≡ self.now }
+    {
+        pair_number(self.i, self.j)
     }
 
     /// Whether the pair is one of so many moves.

@@ -2,12 +2,27 @@
 //! settled how.
 #![tactic(auto)]
 
+mod beginning;
 mod bits;
+mod claim;
+mod claims;
 mod frontier;
+mod halt;
+mod held;
 mod journal;
+mod ledger;
 mod numbers;
+mod parts;
+mod readings;
 
 pub use bits::SettledBits;
+pub use claim::Claim;
 pub use frontier::Frontier;
+pub use halt::{Halt, OverflowStop};
 pub use journal::{Journal, JournalEntry, Kind};
+pub use ledger::Ledger;
 pub use numbers::pair_number;
+pub use parts::LedgerParts;
+
+#[cfg(test)]
+mod tests;

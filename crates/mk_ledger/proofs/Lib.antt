@@ -1,2 +1,4 @@
 pub mod PairNumbers
 pub mod Words
+pub mod Settlings
+pub mod Haltings

@@ -2,3 +2,4 @@ pub mod PairNumbers
 pub mod Words
 pub mod Settlings
 pub mod Haltings
+pub mod SettledFields

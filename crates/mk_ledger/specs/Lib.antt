@@ -4,3 +4,4 @@ pub mod Halts
 pub mod Ledgers
 pub mod Claims
 pub mod LedgerFields
+pub mod Settlings

@@ -10,6 +10,7 @@ mod held;
 mod journal;
 mod ledger;
 mod numbers;
+mod settles;
 
 pub use bits::SettledBits;
 pub use claim::Claim;

@@ -1,9 +1,12 @@
 -- The fields of a ledger where a claim is settled.
-use Rattle.std.proofs.Common.{◌≡◌, ◌⊎◌, inl, inr, ℕ, ◌+◌, ◌<◌, ◌≤◌, true, List, [], ◌∷◌, ◌++◌, length, get_or, set, map, Option, Some, None, ℤ, arith, refl, sym, ap, ◌∙◌, subst}
+use Rattle.std.proofs.Common.{◌≡◌, ◌⊎◌, inl, inr, ℕ, ◌+◌, ◌<◌, ◌≤◌, true, List, [], ◌∷◌, ◌++◌, length, get_or, set, map, Option, Some, None, IsSome, ℤ, arith, refl, sym, ap, ◌∙◌, subst}
 use Rattle.std.specs.Vec.{with_item}
 use Rattle.std.proofs.lemmas.List.{map-append, get_or_default}
 use Rattle.std.proofs.lemmas.Option.{same_Some}
-use Rattle.mk_model.specs.CoreStates.{Pair, pair_of, Way, settle, CoreState, claim_of, IsPairOf}
+use Rattle.std.proofs.lemmas.Bool.{false≢true}
+use Rattle.mk_model.specs.Vectors.{zeros}
+use Rattle.mk_model.specs.Reductions.{Reduct}
+use Rattle.mk_model.specs.CoreStates.{Pair, pair_of, Way, settle, CoreState, claim_of, difference, IsPairOf}
 use Rattle.mk_model.specs.CoreStates.Way.{Zero}
 use Rattle.mk_model.specs.Events.{with_entry, IsSettling}
 use Rattle.mk_model.specs.Events.Event.{Settles}
@@ -17,7 +20,7 @@ use Rattle.mk_ledger.specs.PairFlags.{PairFlags, pair_number}
 use Rattle.mk_ledger.specs.Entries.{settle_of, settles_of}
 use Rattle.mk_ledger.specs.Ledgers.{TheLedger, IsLedger, number_of, AreFlagged, AreInOrder}
 use Rattle.mk_ledger.specs.LedgerFields.{ledger_of, AreFields}
-use Rattle.mk_ledger.specs.Settlings.{IsZeroClaim}
+use Rattle.mk_ledger.specs.Settlings.{IsZeroClaim, AreSmall}
 use Rattle.mk_ledger.proofs.Settlings.{entry_keeps_order, entry_keeps_flags}
 
 -- the fields with an entry at the journal's end and no claim of the worker
@@ -33,23 +36,37 @@ settled_state fields basis settled entry worker pair way e =
     (map-append settle_of fields.journal (entry ∷ []) ∙ ap (λ s. settles_of fields.journal ++ s ∷ []) e)
 
 -- the pair that is read at the place of a claim
-pub claim_read : (state : CoreState) (worker : ℕ) (pair : Pair) → claim_of state worker ≡ Some pair → (read : Option Pair) (held : Pair) → read ≡ get_or state.claims worker read → read ≡ Some held → held ≡ pair
-claim_read state worker pair claimed read held e f =
-    same_Some held pair (sym f ∙ e ∙ get_or_default state.claims worker read None (within_list state.claims worker pair claimed) ∙ claimed)
+pub claim_read : (state : CoreState) (worker : ℕ) (read : Option Pair) (held : Pair) → IsSome (claim_of state worker) → read ≡ get_or state.claims worker read → read ≡ Some held → claim_of state worker ≡ Some held
+claim_read state worker read held some e f = go (claim_of state worker) refl some
+  where
+    go : (o : Option Pair) → claim_of state worker ≡ o → IsSome o → claim_of state worker ≡ Some held
+    go None g t = absurd (false≢true t)
+    go (Some pair) g t = get_or_default state.claims worker None read (within_list state.claims worker pair g) ∙ sym e ∙ f
+
+-- a claim is a pair of the basis, and small
+module _ (fields : Inside) (kept : AreFields fields) (worker : ℕ) (pair : Pair) (claimed : claim_of (ledger_of fields).state worker ≡ Some pair) where
+  pub claim_of_basis : IsPairOf (ledger_of fields).state.basis pair
+  claim_of_basis = (kept.ledger.legal.claims_unsettled worker pair claimed).0
+
+  pub claim_small : AreSmall pair worker
+  claim_small =
+      let second : pair.second < 65536 = omega (arith, claim_of_basis.within, kept.ledger.legal.basis_within, kept.ledger.limit) in
+      record {
+        first = omega (arith, claim_of_basis.ordered, second);
+        second = second;
+        worker_within = omega (arith, within_list (ledger_of fields).state.claims worker pair claimed, kept.ledger.legal.claims_by_workers, kept.ledger.workers);
+      }
 
 -- ---- a difference that reduces to 0
-module _ (fields : Inside) (kept : AreFields fields) (worker i j : ℕ) (claim : IsZeroClaim (length fields.basis.grading) (ledger_of fields).state worker) (same : pair_of i j ≡ claim.pair) where
-  abbrev entry : JournalEntry
-  entry = record { i = i; j = j; third = 0; worker = worker; kind = kind.Zero }
-
+module _ (fields : Inside) (kept : AreFields fields) (worker : ℕ) (claim : IsZeroClaim (length fields.basis.grading) (ledger_of fields).state worker) (entry : JournalEntry) (same : settle_of entry ≡ settle worker claim.pair Zero) where
   abbrev flags : PairFlags
-  flags = record { moves = fields.settled.moves; flags = set fields.settled.flags (pair_number i j) true }
+  flags = record { moves = fields.settled.moves; flags = set fields.settled.flags (number_of claim.pair) true }
 
   abbrev after : Inside
   after = with_settled fields fields.basis flags entry worker
 
   changed : (ledger_of after).state ≡ with_entry (ledger_of fields).state worker claim.pair Zero (vectors_of fields.basis.moves)
-  changed = settled_state fields fields.basis flags entry worker claim.pair Zero (ap (λ p. settle worker p Zero) same)
+  changed = settled_state fields fields.basis flags entry worker claim.pair Zero same
 
   settles : IsSettling (length fields.basis.grading) fields.basis.priority (ledger_of fields).state worker Zero (ledger_of after).state
   settles = record {
@@ -59,9 +76,6 @@ module _ (fields : Inside) (kept : AreFields fields) (worker i j : ℕ) (claim :
     settled = (claim.reduct, refl);
     changed = changed;
   }
-
-  of_basis : IsPairOf (ledger_of fields).state.basis claim.pair
-  of_basis = (kept.ledger.legal.claims_unsettled worker claim.pair claim.claimed).0
 
   kept_after : AreFields after
   kept_after = record {
@@ -75,19 +89,33 @@ module _ (fields : Inside) (kept : AreFields fields) (worker i j : ℕ) (claim :
     };
     flags_moves = kept.flags_moves;
     flagged = subst (λ s. AreFlagged s flags.flags) (sym changed)
-        (subst (λ p. AreFlagged (with_entry (ledger_of fields).state worker claim.pair Zero (vectors_of fields.basis.moves)) (set fields.settled.flags (number_of p) true)) (sym same)
-        (entry_keeps_flags fields.settled.flags kept.flagged worker claim.pair Zero of_basis));
+        (entry_keeps_flags fields.settled.flags kept.flagged worker claim.pair Zero (claim_of_basis fields kept worker claim.pair claim.claimed));
     in_order = subst AreInOrder (sym changed) (entry_keeps_order kept.in_order worker claim.pair claim.claimed Zero (vectors_of fields.basis.moves) (omega arith));
   }
 
-  -- what the journal and the flags are afterwards
-  pub zero_keeps : (journal : List JournalEntry) (settled : PairFlags) → journal ≡ fields.journal ++ entry ∷ [] → settled ≡ flags →
-      AreFields (record fields { journal = journal; settled = settled; claims = with_item fields.claims worker None })
-  zero_keeps journal settled e f =
-      subst (λ j. AreFields (record fields { journal = j; settled = settled; claims = with_item fields.claims worker None })) (sym e)
-      (subst (λ s. AreFields (with_settled fields fields.basis s entry worker)) (sym f) kept_after)
+-- by the ledger that is seen, the pair that is held, and what the journal and the flags are afterwards
+module _ (fields : Inside) (kept : AreFields fields) (ledger : TheLedger) (seen : ledger_of fields ≡ ledger) (worker : ℕ) (claim : IsZeroClaim (length ledger.basis.grading) ledger.state worker) (held : Pair) (claimed : claim_of ledger.state worker ≡ Some held) (entry : JournalEntry) (same : settle_of entry ≡ settle worker held Zero) (journal : List JournalEntry) (settled : PairFlags) (pushed : journal ≡ fields.journal ++ entry ∷ []) where
+  abbrev changed_fields : Inside
+  changed_fields = record fields { journal = journal; settled = settled; claims = with_item fields.claims worker None }
 
-  pub zero_settles : (journal : List JournalEntry) (settled : PairFlags) → journal ≡ fields.journal ++ entry ∷ [] →
-      IsSettling (length fields.basis.grading) fields.basis.priority (ledger_of fields).state worker Zero (ledger_of (record fields { journal = journal; settled = settled; claims = with_item fields.claims worker None })).state
-  zero_settles journal settled e =
-      subst (λ j. IsSettling (length fields.basis.grading) fields.basis.priority (ledger_of fields).state worker Zero (ledger_of (record fields { journal = j; settled = settled; claims = with_item fields.claims worker None })).state) (sym e) settles
+  claim_seen : IsZeroClaim (length fields.basis.grading) (ledger_of fields).state worker
+  claim_seen = record {
+    pair = held;
+    claimed = subst (λ l. claim_of l.state worker ≡ Some held) (sym seen) claimed;
+    reduct = subst (λ l. Reduct l.state.basis (difference l.state.basis held) (zeros (length l.basis.grading))) (sym seen)
+        (subst (λ p. Reduct ledger.state.basis (difference ledger.state.basis p) (zeros (length ledger.basis.grading))) (same_Some claim.pair held (sym claim.claimed ∙ claimed)) claim.reduct);
+  }
+
+  pub zero_keeps : (i j : ℕ) → pair_of i j ≡ held → settled ≡ record { moves = fields.settled.moves; flags = set fields.settled.flags (pair_number i j) true } → AreFields changed_fields
+  unfolding claim_seen
+  zero_keeps i j e f =
+      subst (λ l. AreFields (record fields { journal = l; settled = settled; claims = with_item fields.claims worker None })) (sym pushed)
+      (subst (λ s. AreFields (with_settled fields fields.basis s entry worker)) (sym (f ∙ ap (λ p. record { moves = fields.settled.moves; flags = set fields.settled.flags (number_of p) true }) e))
+      (kept_after fields kept worker claim_seen entry same))
+
+  pub zero_settles : IsSettling (length ledger.basis.grading) ledger.basis.priority ledger.state worker Zero (ledger_of changed_fields).state
+  unfolding claim_seen
+  zero_settles =
+      subst (λ l. IsSettling (length l.basis.grading) l.basis.priority l.state worker Zero (ledger_of changed_fields).state) seen
+      (subst (λ l. IsSettling (length fields.basis.grading) fields.basis.priority (ledger_of fields).state worker Zero (ledger_of (record fields { journal = l; settled = settled; claims = with_item fields.claims worker None })).state) (sym pushed)
+      (settles fields kept worker claim_seen entry same))

@@ -1,5 +1,5 @@
 -- What a worker knows of its claim when it settles it.
-use Rattle.std.specs.Prelude.{◌≡◌, ◌⊎◌, ℕ, ◌≤◌, List, length, take, Some, ℤ}
+use Rattle.std.specs.Prelude.{◌≡◌, ◌⊎◌, ℕ, ◌<◌, ◌≤◌, List, length, take, Some, ℤ}
 use Rattle.mk_model.specs.Vectors.{zeros, negate}
 use Rattle.mk_model.specs.Reductions.{Reduct, IsNormal}
 use Rattle.mk_model.specs.CoreStates.{Pair, CoreState, claim_of, difference}
@@ -19,3 +19,9 @@ pub record IsReductOfClaim (state : CoreState) (worker front : ℕ) (move : List
   pub reduct : Reduct state.basis (difference state.basis pair) rest
   pub sign : (move ≡ rest) ⊎ (move ≡ negate rest)
   pub normal : IsNormal (take front state.basis) rest
+
+-- places and a worker's number as small as an entry of a journal keeps them
+pub record AreSmall (pair : Pair) (worker : ℕ) : Type 0 where
+  pub first : pair.first < 65536
+  pub second : pair.second < 65536
+  pub worker_within : worker < 64

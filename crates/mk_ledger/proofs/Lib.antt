@@ -3,3 +3,4 @@ pub mod Words
 pub mod Settlings
 pub mod Haltings
 pub mod SettledFields
+pub mod HaltedFields

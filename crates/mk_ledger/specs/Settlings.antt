@@ -1,8 +1,9 @@
--- What a worker knows of its claim when it settles it.
+-- What a worker knows of its claim when it settles it or halts.
 use Rattle.std.specs.Prelude.{◌≡◌, ◌⊎◌, ℕ, ◌<◌, ◌≤◌, List, length, take, Some, ℤ}
 use Rattle.mk_model.specs.Vectors.{zeros, negate}
 use Rattle.mk_model.specs.Reductions.{Reduct, IsNormal}
-use Rattle.mk_model.specs.CoreStates.{Pair, CoreState, claim_of, difference}
+use Rattle.mk_model.specs.CoreStates.{Pair, Halt, CoreState, claim_of, difference}
+use Rattle.mk_model.specs.CoreStates.Halt.{Overflow, Full, Memory}
 
 -- the claim of the worker, whose difference has the reduct 0
 pub record IsZeroClaim (n : ℕ) (state : CoreState) (worker : ℕ) : Type 0 where
@@ -25,3 +26,9 @@ pub record AreSmall (pair : Pair) (worker : ℕ) : Type 0 where
   pub first : pair.first < 65536
   pub second : pair.second < 65536
   pub worker_within : worker < 64
+
+-- another halt than that of a basis with its limit of moves
+abbrev pub NotFull : Halt → Type 0
+NotFull (Overflow stop) = Unit {0}
+NotFull (Full pair) = ⊥
+NotFull Memory = Unit {0}

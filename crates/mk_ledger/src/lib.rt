@@ -6,6 +6,7 @@ mod bits;
 mod claim;
 mod frontier;
 mod halt;
+mod halting;
 mod held;
 mod journal;
 mod ledger;

@@ -2,11 +2,11 @@
 use Rattle.std.proofs.Common.{◌≡◌, ◌⊎◌, inl, inr, ℕ, ◌+◌, ◌<◌, ◌≤◌, true, List, [], ◌∷◌, ◌++◌, length, get_or, set, map, Option, Some, None, IsSome, ℤ, arith, refl, sym, ap, ◌∙◌, subst}
 use Rattle.std.specs.Vec.{with_item}
 use Rattle.std.proofs.lemmas.List.{map-append, get_or_default}
-use Rattle.std.proofs.lemmas.Option.{same_Some}
+use Rattle.std.proofs.lemmas.Option.{none-some, same_Some}
 use Rattle.std.proofs.lemmas.Bool.{false≢true}
 use Rattle.mk_model.specs.Vectors.{zeros}
 use Rattle.mk_model.specs.Reductions.{Reduct}
-use Rattle.mk_model.specs.CoreStates.{Pair, pair_of, Way, settle, CoreState, claim_of, difference, IsPairOf}
+use Rattle.mk_model.specs.CoreStates.{Pair, pair_of, Way, settle, Halt, CoreState, claim_of, halt_of, difference, IsPairOf}
 use Rattle.mk_model.specs.CoreStates.Way.{Zero}
 use Rattle.mk_model.specs.Events.{with_entry, IsSettling}
 use Rattle.mk_model.specs.Events.Event.{Settles}
@@ -56,6 +56,16 @@ module _ (fields : Inside) (kept : AreFields fields) (worker : ℕ) (pair : Pair
         second = second;
         worker_within = omega (arith, within_list (ledger_of fields).state.claims worker pair claimed, kept.ledger.legal.claims_by_workers, kept.ledger.workers);
       }
+
+  pub claim_worker : worker < fields.workers
+  claim_worker = omega (arith, within_list (ledger_of fields).state.claims worker pair claimed, kept.ledger.legal.claims_by_workers)
+
+  pub claim_no_halt : halt_of (ledger_of fields).state worker ≡ None
+  claim_no_halt = go (halt_of (ledger_of fields).state worker) refl
+    where
+      go : (o : Option Halt) → halt_of (ledger_of fields).state worker ≡ o → halt_of (ledger_of fields).state worker ≡ None
+      go None e = e
+      go (Some halt) e = absurd (none-some pair (sym (kept.ledger.legal.halted_without_claim worker halt e) ∙ claimed))
 
 -- ---- a difference that reduces to 0
 module _ (fields : Inside) (kept : AreFields fields) (worker : ℕ) (claim : IsZeroClaim (length fields.basis.grading) (ledger_of fields).state worker) (entry : JournalEntry) (same : settle_of entry ≡ settle worker claim.pair Zero) where

@@ -4,3 +4,4 @@ pub mod Settlings
 pub mod Haltings
 pub mod SettledFields
 pub mod HaltedFields
+pub mod PlacedFields

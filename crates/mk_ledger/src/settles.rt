@@ -91,15 +91,13 @@ impl Ledger {
         let place = self.basis.len();
         let held = self.held_by(worker);
         let entry = entry_of(held, worker, place, Kind::Place);
-        if let Err(given) = append(
+        append(
             &mut self.journal,
             &mut self.basis,
             &mut self.settled,
             entry,
             m,
-        ) {
-            return Err(PlaceFault::Memory { given });
-        }
+        )?;
         self.settled.mark(held.i, held.j);
         self.claims[worker as usize] = None;
         Ok(place)
@@ -142,15 +140,15 @@ fn append(
     settled: &mut SettledBits,
     entry: JournalEntry,
     m: Move,
-) -> Result<(), Move>
+) -> Result<(), PlaceFault>
     requires belongs { BelongsTo basis.old.priority basis.old.grading m }
     requires flags { AreFlagsOf basis.old.moves settled.old }
     ensures ok { OnOk result ((journal.new ≡ journal.old ++ entry ∷ []) × IsGrown basis.old settled.old m basis.new settled.new) }
     ensures err { OnErr result ((journal.new ≡ journal.old) × (basis.new ≡ basis.old) × (settled.new ≡ settled.old)) }
-    ensures given { IfErr result (λ given. given ≡ m) }
+    ensures given { IfErr result (λ fault. fault ≡ PlaceFault.Memory m) }
 {
     if journal.push(entry).is_err() {
-        return Err(m);
+        return Err(PlaceFault::Memory { given: m });
     }
     let grown = grow(basis, settled, m);
     if grown.is_err() {
@@ -160,21 +158,23 @@ fn append(
 }
 
 /// Puts the move at the end of the basis, and flags for its pairs behind the others.
-fn grow(basis: &mut Basis, settled: &mut SettledBits, m: Move) -> Result<(), Move>
+fn grow(basis: &mut Basis, settled: &mut SettledBits, m: Move) -> Result<(), PlaceFault>
     requires belongs { BelongsTo basis.old.priority basis.old.grading m }
     requires flags { AreFlagsOf basis.old.moves settled.old }
     ensures ok { OnOk result (IsGrown basis.old settled.old m basis.new settled.new) }
     ensures err { OnErr result ((basis.new ≡ basis.old) × (settled.new ≡ settled.old)) }
-    ensures given { IfErr result (λ given. given ≡ m) }
+    ensures given { IfErr result (λ fault. fault ≡ PlaceFault.Memory m) }
 {
     if settled.grow().is_err() {
-        return Err(m);
+        return Err(PlaceFault::Memory { given: m });
     }
     match basis.push(m) {
         Ok(()) => Ok(()),
         Err(fault) => {
             settled.shrink();
-            Err(fault.given)
+            Err(PlaceFault::Memory {
+                given: fault.given,
+            })
         }
     }
 }

@@ -6,3 +6,8 @@ pub mod Claiming
 pub mod SettledPairs
 pub mod Beginnings
 pub mod FirstHalts
+pub mod Settlings
+pub mod Haltings
+pub mod SettledFields
+pub mod HaltedFields
+pub mod PlacedFields

@@ -1,5 +1,6 @@
 -- The bits of words: what setting one, and words of zeros behind them, leave of the others.
-use Rattle.std.proofs.Common.{◌≡◌, ◌≢◌, ◌⊎◌, inl, inr, ℕ, zero, suc, ◌+◌, ◌-◌, ◌*◌, ◌/◌, ◌%◌, ◌^◌, ◌<◌, ◌≤◌, ◌==◌, Bool, true, false, List, [], ◌∷◌, ◌++◌, length, get_or, set, replicate, arith, refl, sym, ap, ◌∙◌, subst, ⊎_elim, length-set, length-append, append_assoc, append-nil}
+use Rattle.std.proofs.Common.{◌≡◌, ◌≢◌, ◌⊎◌, inl, inr, ℕ, zero, suc, ◌+◌, ◌-◌, ◌*◌, ◌/◌, ◌%◌, ◌^◌, ◌<◌, ◌≤◌, ◌==◌, Bool, true, false, List, [], ◌∷◌, ◌++◌, length, get_or, set, take, replicate, arith, refl, sym, ap, ◌∙◌, subst, ⊎_elim, length-set, length-append, append_assoc, append-nil}
+use Rattle.std.proofs.Math.Seq.{take-append_seam}
 use Rattle.std.specs.Int.{bit_at, w64}
 use Rattle.std.specs.Int.RustNames.{bit_or, bit_and}
 use Rattle.std.proofs.lemmas.Nat.{div_below, mod_below, div-add-mod'}
@@ -167,3 +168,20 @@ pub flags_fresh : (old words : List ℕ) (n count : ℕ) → old ≡ [] → word
 flags_fresh old words n count none e =
     let z : 0 + count ≡ count = omega arith in
     ap (flags_of words) (sym z) ∙ flags_clear words 0 count (λ k _. zeros_alone old words n k none e)
+-- ---- one move fewer, of whose pairs none is settled
+module _ (words : List ℕ) (moves : ℕ) (h : AreWords words moves) (some : 0 < moves) (clear : (k : ℕ) → pairs_of (moves - 1) ≤ k → get_or (flags_of words (pairs_of moves)) k false ≡ false) where
+  shrunk_clear : (k : ℕ) → pairs_of (moves - 1) ≤ k → flag_at words k ≡ false
+  shrunk_clear k l = ⊎_elim (λ below. sym (flag_below words (pairs_of moves) k below) ∙ clear k l) (λ past. h.clear k past) (cases_lt k (pairs_of moves))
+
+  last_pairs : pairs_of moves ≡ pairs_of (moves - 1) + (moves - 1)
+  last_pairs = let e : moves ≡ moves - 1 + 1 = omega arith in ap pairs_of e ∙ pairs_of_more (moves - 1)
+
+  pub shrunk : AreWords words (moves - 1)
+  shrunk = record { few = omega (arith, h.few); room = omega (arith, h.room, last_pairs); clear = shrunk_clear }
+
+  pub flags_shrunk : flags_of words (pairs_of (moves - 1)) ≡ take (pairs_of (moves - 1)) (flags_of words (pairs_of moves))
+  flags_shrunk =
+      let count : ℕ = pairs_of (moves - 1) in
+      let size : length (flags_of words count) ≡ count = length-map-range_with_len (flag_at words) 0 count in
+      sym (ap (λ n. take count (flags_of words n)) last_pairs ∙ ap (take count) (flags_clear words count (moves - 1) shrunk_clear)
+      ∙ ap (λ n. take n (flags_of words count ++ replicate (moves - 1) false)) (sym size) ∙ take-append_seam (flags_of words count) (replicate (moves - 1) false))

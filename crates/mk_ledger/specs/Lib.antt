@@ -6,3 +6,4 @@ pub mod Claims
 pub mod LedgerFields
 pub mod HeldClaims
 pub mod FirstHalts
+pub mod Settlings

@@ -1,4 +1,4 @@
-ghost use Rattle.std.specs.Prelude.{◌≡◌, ◌+◌, ◌-◌, ◌<◌, ◌≤◌, ◌++◌, [], true, false, length, replicate, IfOk, OnOk, OnErr, slice_index_or, slice_set};
+ghost use Rattle.std.specs.Prelude.{◌≡◌, ℕ, ◌+◌, ◌-◌, ◌<◌, ◌≤◌, ◌++◌, [], true, false, length, take, replicate, IfOk, OnOk, OnErr, slice_index_or, slice_set};
 ghost use Rattle.mk_ledger.specs.PairFlags.{pairs_of, pair_number};
 
 use crate::numbers::{pair_number, pairs_of};
@@ -85,6 +85,15 @@ impl SettledBits {
         fit(&mut self.words, needed)?;
         self.moves += 1;
         Ok(())
+    }
+
+    /// One move fewer: the last, of whose pairs none is settled.
+    pub fn shrink(&mut self)
+        requires some { 0 < self.old.moves }
+        requires clear { (number : ℕ) → pairs_of (self.old.moves - 1) ≤ number → slice_index_or self.old.flags number false ≡ false }
+        ensures { self.new ≡ record { moves = self.old.moves - 1; flags = take (pairs_of (self.old.moves - 1)) self.old.flags } }
+    {
+        self.moves -= 1;
     }
 }
 

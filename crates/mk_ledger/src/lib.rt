@@ -8,12 +8,14 @@ mod claim;
 mod claims;
 mod frontier;
 mod halt;
+mod halting;
 mod held;
 mod journal;
 mod ledger;
 mod numbers;
 mod parts;
 mod readings;
+mod settles;
 
 pub use bits::SettledBits;
 pub use claim::Claim;

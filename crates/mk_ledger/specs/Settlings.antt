@@ -1,0 +1,88 @@
+-- What a worker knows of its claim when it settles it or halts, and what placing a move is answered.
+use Rattle.std.specs.Prelude.{◌≡◌, ◌⊎◌, ℕ, ◌+◌, ◌<◌, ◌≤◌, List, [], ◌∷◌, ◌++◌, false, length, take, replicate, Some, Result, Ok, Err, ℤ}
+use Rattle.mk_model.specs.Vectors.{zeros, negate}
+use Rattle.mk_model.specs.Reductions.{Reduct, IsNormal}
+use Rattle.mk_model.specs.CoreStates.{Pair, Halt, CoreState, claim_of, difference}
+use Rattle.mk_model.specs.CoreStates.Way.{Place}
+use Rattle.mk_model.specs.CoreStates.Halt.{Overflow, Full, Memory}
+use Rattle.mk_model.specs.Events.{IsSettling, IsFull, IsHalting}
+use Rattle.mk_move.specs.Moves.{Weighed}
+use Rattle.mk_move.specs.MoveLists.{MoveList}
+use Rattle.mk_ledger.specs.declared.settles.PlaceFault.{PlaceFault}
+use Rattle.mk_ledger.specs.declared.settles.PlaceFault.TheVariants as fault
+use Rattle.mk_ledger.specs.PairFlags.{PairFlags, pairs_of}
+use Rattle.mk_ledger.specs.Ledgers.{TheLedger}
+
+-- the claim of the worker, whose difference has the reduct 0
+pub record IsZeroClaim (n : ℕ) (state : CoreState) (worker : ℕ) : Type 0 where
+  pub pair : Pair
+  pub claimed : claim_of state worker ≡ Some pair
+  pub reduct : Reduct state.basis (difference state.basis pair) (zeros n)
+
+-- The claim of the worker: the move or its negative is a reduct of its difference, normal for so many of the first moves.
+pub record IsReductOfClaim (state : CoreState) (worker front : ℕ) (move : List ℤ) : Type 0 where
+  pub pair : Pair
+  pub claimed : claim_of state worker ≡ Some pair
+  pub front_within : front ≤ length state.basis
+  pub rest : List ℤ
+  pub reduct : Reduct state.basis (difference state.basis pair) rest
+  pub sign : (move ≡ rest) ⊎ (move ≡ negate rest)
+  pub normal : IsNormal (take front state.basis) rest
+
+-- the claim of the worker, for which the basis is full
+pub record IsFullClaim (state : CoreState) (worker : ℕ) : Type 0 where
+  pub pair : Pair
+  pub claimed : claim_of state worker ≡ Some pair
+  pub full : IsFull state pair
+
+-- another halt than that of a full basis
+abbrev pub NotFull : Halt → Type 0
+NotFull (Overflow stop) = Unit {0}
+NotFull (Full pair) = ⊥
+NotFull Memory = Unit {0}
+
+-- ---- placing a move
+-- the moves with one more at the end
+abbrev pub with_move : MoveList → Weighed → MoveList
+with_move basis m = record basis { moves = basis.moves ++ m ∷ [] }
+
+-- The move is at the end of the basis, and the claim is settled by it.
+pub record IsPlacedLast (ledger : TheLedger) (worker front : ℕ) (m : Weighed) (place : ℕ) (after : TheLedger) : Type 0 where
+  pub whole : front ≡ length ledger.basis.moves
+  pub at_end : place ≡ length ledger.basis.moves
+  pub settling : IsSettling (length ledger.basis.grading) ledger.basis.priority ledger.state worker (Place place) after.state
+  pub pushed : after.basis ≡ with_move ledger.basis m
+
+-- the worker halts, since the basis is full for its claim
+pub record HaltsFull (state : CoreState) (worker : ℕ) (after : CoreState) : Type 0 where
+  pub pair : Pair
+  pub claimed : claim_of state worker ≡ Some pair
+  pub halting : IsHalting state worker (Full pair) after
+
+-- The answer, and the ledger afterwards: a move that isn't placed is handed back, but where the basis is full.
+abbrev pub IsPlacing : TheLedger → ℕ → ℕ → Weighed → Result ℕ PlaceFault → TheLedger → Type 0
+IsPlacing ledger worker front m (Ok place) after = IsPlacedLast ledger worker front m place after
+IsPlacing ledger worker front m (Err (fault.Memory given)) after =
+    (front ≡ length ledger.basis.moves) × (length ledger.basis.moves < ledger.state.limit) × (given ≡ m) × (after ≡ ledger)
+IsPlacing ledger worker front m (Err (fault.Behind count given)) after =
+    (front < length ledger.basis.moves) × (count ≡ length ledger.basis.moves) × (given ≡ m) × (after ≡ ledger)
+IsPlacing ledger worker front m (Err fault.BasisFull) after =
+    (front ≡ length ledger.basis.moves) × (length ledger.basis.moves ≡ ledger.state.limit) × HaltsFull ledger.state worker after.state × (after.basis ≡ ledger.basis)
+
+-- ---- the parts of a ledger where a move is placed
+-- places and a worker's number as small as an entry of a journal keeps them
+pub record AreSmall (pair : Pair) (worker : ℕ) : Type 0 where
+  pub first : pair.first < 65536
+  pub second : pair.second < 65536
+  pub worker_within : worker < 64
+
+-- a flag for each pair of fewer than 65,536 moves
+pub record AreFlagsOf (moves : List Weighed) (settled : PairFlags) : Type 0 where
+  pub count : settled.moves ≡ length moves
+  pub few : length moves < 65536
+  pub each : length settled.flags ≡ pairs_of settled.moves
+
+-- the move is at the end, and the flags of its pairs, which are clear, behind the others
+pub record IsGrown (basis : MoveList) (settled : PairFlags) (m : Weighed) (basis_after : MoveList) (settled_after : PairFlags) : Type 0 where
+  pub moves : basis_after ≡ with_move basis m
+  pub flags : settled_after ≡ record { moves = settled.moves + 1; flags = settled.flags ++ replicate settled.moves false }

@@ -35,3 +35,8 @@ is_zero row = list_all (λ a. int_eq a (pos 0)) row
 -- the rows that are not zero, in their order
 abbrev pub nonzero_rows : List (List ℤ) → List (List ℤ)
 nonzero_rows rows = filter (λ row. not (is_zero row)) rows
+
+-- the rows and the others have the same integer combinations
+pub record SameLattice (n : ℕ) (rows others : List (List ℤ)) : Type 0 where
+  pub there : (x : List ℤ) → InLattice n rows x → InLattice n others x
+  pub back : (x : List ℤ) → InLattice n others x → InLattice n rows x

@@ -3,7 +3,7 @@ use Rattle.std.specs.Prelude.{◌≡◌, ◌⊎◌, ℕ, ◌≤◌, ◌<◌, Lis
 use Rattle.mk_model.specs.declared.TheConstants.{ENTRY_MAX}
 use Rattle.mk_model.specs.Vectors.{entry, scale, positive_part, negative_part, IsEntry}
 use Rattle.mk_model.specs.Orders.{lead}
-use Rattle.mk_model.specs.Reductions.{Divides, Reduct}
+use Rattle.mk_model.specs.Reductions.{Divides, Reduct, TailReduct}
 use Rattle.mk_model.specs.CoreStates.{OverflowStop, move_at, difference}
 
 -- greater in absolute value than an entry may be
@@ -43,3 +43,14 @@ pub record IsDifferenceOverflow (moves : List (List ℤ)) (stop : OverflowStop) 
 abbrev pub IsGenuineOverflow : List (List ℤ) → OverflowStop → Type 0
 IsGenuineOverflow moves stop =
     ((stop.by ≡ None) × IsDifferenceOverflow moves stop) ⊎ ((place : ℕ) × (stop.by ≡ Some place) × IsStepOverflow moves stop place)
+
+-- a step of reduction by the move of a place, on the negative part of a vector that such steps reach from the move of an index
+pub record IsTailOverflow (moves : List (List ℤ)) (index place : ℕ) (operand : List ℤ) (stop : OverflowStop) : Type 0 where
+  pub of_list : index < length moves
+  pub within : place < length moves
+  pub reached : TailReduct moves (move_at moves index) operand
+  pub count : ℕ
+  pub some : 1 ≤ count
+  pub times : stop.times ≡ neg_ℤ (pos count)
+  pub divides : Divides (scale (pos count) (lead (move_at moves place))) (negative_part operand)
+  pub beyond : IsFirstBeyond operand (move_at moves place) stop

@@ -54,3 +54,16 @@ pub record IsNormal (moves : List (List ℤ)) (r : List ℤ) : Type 0 where
   pub not_zero : is_zero r ≡ false
   pub positive : IsIrreducible moves (positive_part r)
   pub negative : IsIrreducible moves (negative_part r)
+
+-- One step of reduction of the negative part alone: r plus some times a move, where so many times its lead divides that part.
+pub record IsTailReduction (moves : List (List ℤ)) (r reduced : List ℤ) : Type 0 where
+  pub move : List ℤ
+  pub member : Contains moves move
+  pub times : ℕ
+  pub some : 1 ≤ times
+  pub divides : Divides (scale (pos times) (lead move)) (negative_part r)
+  pub added : reduced ≡ add r (scale (pos times) move)
+
+-- any number of such steps lead from r to the other vector
+abbrev pub TailReduct : List (List ℤ) → List ℤ → List ℤ → Type 0
+TailReduct moves r reduced = Reaches (IsTailReduction moves) r reduced

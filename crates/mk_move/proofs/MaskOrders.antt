@@ -1,5 +1,5 @@
 -- The last blocks of masks, and the order by the standard list that they tell.
-use Rattle.std.proofs.Common.{◌≡◌, ◌⊎◌, inl, inr, ℕ, zero, suc, ◌+◌, ◌*◌, ◌/◌, ◌%◌, ◌^◌, ◌<◌, ◌≤◌, max, List, length, arith, refl, sym, ap, ◌∙◌, subst, ℤ, pos, ◌<ℤ◌, ◌≤ℤ◌}
+use Rattle.std.proofs.Common.{◌≡◌, ◌⊎◌, inl, inr, ℕ, zero, suc, ◌+◌, ◌/◌, ◌%◌, ◌^◌, ◌<◌, ◌≤◌, List, length, arith, sym, ap, ◌∙◌, subst, ℤ, pos, ◌<ℤ◌, ◌≤ℤ◌}
 use Rattle.std.specs.Int.{bit_at}
 use Rattle.std.specs.Int.Count.{count_leading_zeros, leading_of_zero}
 use Rattle.std.proofs.Math.Nat.{pow-suc, div-eq_of_lt-le, div-mul-le_self}
@@ -14,7 +14,7 @@ use Rattle.mk_move.specs.Masks.{block_width, block_of, HasPositive, IsMask}
 use Rattle.mk_move.specs.declared.side.Side.{Side}
 use Rattle.mk_move.specs.Sides.{part_of}
 use Rattle.mk_move.proofs.Divisions.{length-part_of, part_of_nonnegative}
-use Rattle.mk_move.proofs.MaskTests.{same_block, covered_there}
+use Rattle.mk_move.proofs.MaskTests.{same_block}
 
 -- larger at a column, and not less at any behind it
 pub below_higher : (n c : ℕ) (x y : List ℤ) → c < n → entry y c <ℤ entry x c → ((d : ℕ) → c ≤ d → entry y d ≤ℤ entry x d) → IsBelow (standard n) x y

@@ -39,6 +39,7 @@ pub fn coprime_leads(a: &Move, b: &Move) -> bool
     if a.mask(Side::Plus) & b.mask(Side::Plus) == 0 {
         return true;
     }
+    // A block of so few columns is one column.
     if a.columns() <= 64 {
         return false;
     }

@@ -37,9 +37,9 @@ const INLINE: usize = 16;
 
 pub(crate) type Entries = SmallVec<Entry, INLINE>;
 
-/// A vector of a lattice that isn't zero, of at most 512 columns, with the weight of its lead, and the masks of its
-/// positive and its negative part.
-/// (Sturmfels, chapters 4 and 5: a binomial with its degree)
+/// A vector of a lattice that isn't zero, of at most 512 columns, with the weight of its lead, and with the masks of both
+/// parts: a bit for each block of columns, set where the part has an entry. (Sturmfels, chapters 4 and 5: a binomial with
+/// its degree)
 #[derive(Debug, Drop)]
 pub struct Move {
     entries: Entries,

@@ -1,7 +1,6 @@
 use Rattle.std.proofs.Common.{◌≡◌, ◌∙◌, sym, length, rules, arith}
 use Rattle.mk_model.specs.Vectors.{positive_part}
 use Rattle.mk_model.proofs.VectorAlgebra.{length-positive_part}
-use Rattle.mk_move.specs.Sides.{part_of}
 use Rattle.mk_move.specs.declared.side.Side.TheVariants.{Plus}
 use Rattle.mk_move.proofs.Divisions.{part_of_nonnegative}
 use Rattle.mk_move.proofs.MaskTests.{apart_disjoint, not_apart}

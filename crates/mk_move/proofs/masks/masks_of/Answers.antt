@@ -1,4 +1,4 @@
-use Rattle.std.proofs.Common.{◌≡◌, ◌/◌, pos, get_or, length, refl, arith, ap, ◌∙◌, rules}
+use Rattle.std.proofs.Common.{◌≡◌, ◌/◌, pos, get_or, refl, arith, ap, ◌∙◌}
 use mir.Syntax.{w64}
 use mir.Val.{to_z, of_z}
 use Rattle.mk_move.proofs.Readings.{less, not_less, entry_read}

@@ -1,9 +1,8 @@
-use Rattle.std.proofs.Common.{◌≡◌, arith, ◌∙◌, length, rules, sym}
+use Rattle.std.proofs.Common.{◌≡◌, arith, ◌∙◌, length, rules}
 use mir.Syntax.{w128}
-use mir.Val.{to_z, of_z, SFits}
-use Rattle.std.specs.Ordering.{MatchOrdering}
+use mir.Val.{SFits}
 use Rattle.std.proofs.lemmas.Int.{ints, to_z-of_z}
-use Rattle.mk_model.specs.Orders.{IsBelow, standard, lead, tail}
+use Rattle.mk_model.specs.Orders.{lead}
 use Rattle.mk_move.specs.Moves.{IsBefore}
 use Rattle.mk_move.proofs.Readings.{not_less}
 use Rattle.mk_move.proofs.Comparisons.{IsComparison, ordered_moves, by_leads, by_tails}

@@ -1,4 +1,4 @@
-use Rattle.std.proofs.Common.{◌≡◌, ◌≤ℤ◌, ◌<ℤ◌, ℤ, List, pos, length, arith, rules, sym, ap, subst, ◌∙◌, refl}
+use Rattle.std.proofs.Common.{◌≡◌, ◌<ℤ◌, pos, length, rules, sym, ap, ◌∙◌, refl}
 use mir.Syntax.{w64}
 use mir.Val.{to_z, of_z, SFits}
 use Rattle.std.specs.List.{refill}

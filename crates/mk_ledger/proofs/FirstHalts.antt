@@ -1,5 +1,5 @@
 -- The worker that halted first is one of the workers.
-use Rattle.std.proofs.Common.{◌≡◌, ◌⊎◌, inl, inr, ℕ, ◌<◌, length, Option, None, Some, IfSome, sym, subst}
+use Rattle.std.proofs.Common.{inl, inr, ℕ, ◌<◌, length, Option, IfSome, sym, subst}
 use Rattle.mk_model.specs.CoreStates.{CoreState}
 use Rattle.mk_model.specs.Legal.{IsFirstHalted}
 use Rattle.mk_model.proofs.LegalEvents.{within_list}

@@ -46,7 +46,7 @@ impl Ledger {
         }
     }
 
-    /// The next pair is the worker's from now on.
+    /// Gives the worker the next pair in their order, which is the least free one.
     fn give(&mut self, worker: u32) -> Claim
         requires { MayClaim self.old.state worker }
         ensures answered { IsAnswered self.old.state worker result self.new.state }
@@ -66,7 +66,7 @@ fn is_lesser(held: Held, other: Held) -> bool
     held.j < other.j || (held.j == other.j && held.i < other.i)
 }
 
-/// The least claim of the workers before this one and this one.
+/// The least claim of the workers up to this one, by the least of those before it.
 fn with_next(
     claims: &[Option<Held>],
     least: Option<(u32, Held)>,

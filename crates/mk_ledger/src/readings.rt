@@ -1,4 +1,4 @@
-ghost use Rattle.std.specs.Prelude.{◌≡◌, ◌<◌, ◌≢◌, ◌↔◌, IsTrue, MatchOption, length, slice_get, Some, None};
+ghost use Rattle.std.specs.Prelude.{◌≡◌, ◌<◌, ◌≤◌, ◌≢◌, ◌↔◌, IsTrue, MatchOption, length, slice_get, Some, None};
 ghost use Rattle.mk_model.specs.CoreStates.{pair_of, claim_of};
 ghost use Rattle.mk_model.specs.Events.{AreSettled};
 ghost use Rattle.mk_model.specs.Legal.{IsEnded};
@@ -34,9 +34,10 @@ impl Ledger {
         Some((held.i, held.j))
     }
 
-    /// How many claims were made: fewer than 2^63.
+    /// How many claims were made: at most the budget.
     pub fn claims_made(&self) -> u64
-        ensures { result ≡ self.now.state.claims_made }
+        ensures value { result ≡ self.now.state.claims_made }
+        ensures range { result ≤ self.now.state.budget }
     {
         self.next.number()
     }
@@ -77,14 +78,17 @@ impl Ledger {
 
     /// How many moves the basis may have: at most 65,536.
     pub fn basis_limit(&self) -> u32
-        ensures { result ≡ self.now.state.limit }
+        ensures value { result ≡ self.now.state.limit }
+        ensures range { result ≤ 65536 }
     {
         self.limit
     }
 
     /// How many workers there are: 1 to 64.
     pub fn workers(&self) -> u32
-        ensures { result ≡ self.now.state.workers }
+        ensures value { result ≡ self.now.state.workers }
+        ensures some { 1 ≤ result }
+        ensures few { result ≤ 64 }
     {
         self.workers
     }

@@ -20,3 +20,4 @@ pub use halt::{Halt, OverflowStop};
 pub use journal::{Journal, JournalEntry, Kind};
 pub use ledger::Ledger;
 pub use numbers::pair_number;
+pub use settles::PlaceFault;

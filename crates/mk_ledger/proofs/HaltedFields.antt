@@ -1,5 +1,5 @@
 -- The fields of a ledger where a worker halts.
-use Rattle.std.proofs.Common.{◌≡◌, ℕ, ◌+◌, ◌^◌, ◌<◌, ◌≤◌, Bool, List, length, get_or, set, Option, Some, None, arith, refl, sym, ap, ◌∙◌, subst}
+use Rattle.std.proofs.Common.{◌≡◌, ℕ, ◌+◌, ◌^◌, ◌<◌, Bool, length, get_or, Option, Some, None, arith, refl, sym, ap, ◌∙◌, subst}
 use Rattle.std.specs.Vec.{with_item}
 use Rattle.std.specs.Option.{is_some, option_or}
 use Rattle.std.proofs.lemmas.List.{get_or_default}
@@ -11,7 +11,7 @@ use Rattle.mk_model.specs.Legal.{IsLegal}
 use Rattle.mk_model.proofs.LegalEvents.{events_keep}
 use Rattle.mk_ledger.specs.declared.ledger.Ledger.TheInside.{Inside}
 use Rattle.mk_ledger.specs.PairFlags.{pairs_of}
-use Rattle.mk_ledger.specs.Ledgers.{TheLedger, IsLedger, AreFlagged, AreInOrder}
+use Rattle.mk_ledger.specs.Ledgers.{TheLedger, AreFlagged, AreInOrder}
 use Rattle.mk_ledger.specs.LedgerFields.{ledger_of, AreFields}
 use Rattle.mk_ledger.proofs.PairNumbers.{pairs_of_least}
 use Rattle.mk_ledger.proofs.Haltings.{halt_keeps_order, halt_keeps_flags}

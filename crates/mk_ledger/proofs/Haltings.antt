@@ -1,13 +1,12 @@
 -- A worker that halts: the order of the claims and the flags afterwards.
-use Rattle.std.proofs.Common.{◌≡◌, ◌≢◌, ◌⊎◌, inl, inr, ℕ, ◌+◌, ◌<◌, ◌≤◌, Bool, List, Option, Some, None, arith, refl, sym, ap, ◌∙◌, ⊎_elim}
-use Rattle.std.proofs.lemmas.Bool.{cases_eq}
+use Rattle.std.proofs.Common.{◌≡◌, ◌≢◌, ◌⊎◌, inl, inr, ℕ, Bool, List, Option, Some, None, arith, refl, sym, ap, ◌∙◌, ⊎_elim}
 use Rattle.std.proofs.lemmas.Option.{none-some}
 use Rattle.std.proofs.lemmas.List.{get_or-set_other}
-use Rattle.mk_model.specs.CoreStates.{Pair, Halt, CoreState, claim_of, IsPairOf, IsSettled, IsClaimed, IsFree}
+use Rattle.mk_model.specs.CoreStates.{Pair, Halt, CoreState, claim_of}
 use Rattle.mk_model.specs.Events.{with_halt, given_up, first_of}
 use Rattle.mk_model.specs.Legal.{IsLegal}
 use Rattle.mk_model.proofs.LegalEvents.{cleared}
-use Rattle.mk_ledger.specs.Ledgers.{number_of, AreFlagged, AreAllTaken, IsOneLeft, AreInOrder}
+use Rattle.mk_ledger.specs.Ledgers.{AreFlagged, AreAllTaken, IsOneLeft, AreInOrder}
 
 -- once a worker halted, there is a first that did
 some_first : (o : Option ℕ) (worker : ℕ) → first_of o worker ≢ None

@@ -1,10 +1,10 @@
 -- The fields of a ledger where a claim is settled by a move that is placed.
-use Rattle.std.proofs.Common.{◌≡◌, ◌⊎◌, ℕ, ◌+◌, ◌^◌, ◌<◌, ◌≤◌, true, false, List, [], ◌∷◌, ◌++◌, length, get_or, set, map, take, replicate, Some, None, All, ℤ, arith, refl, sym, ap, ◌∙◌, subst, length-append}
+use Rattle.std.proofs.Common.{◌≡◌, ℕ, ◌+◌, ◌<◌, true, false, List, [], ◌∷◌, ◌++◌, length, set, replicate, Some, None, ℤ, arith, refl, sym, ap, ◌∙◌, subst, length-append}
 use Rattle.std.specs.Vec.{with_item}
 use Rattle.std.proofs.lemmas.List.{map-append, length-map, take_all, set-append_left}
 use Rattle.std.proofs.lemmas.List.Elements.{All-push}
 use Rattle.std.proofs.lemmas.Option.{same_Some}
-use Rattle.mk_model.specs.CoreStates.{Pair, pair_of, settle, CoreState, claim_of, IsPairOf}
+use Rattle.mk_model.specs.CoreStates.{Pair, pair_of, settle, CoreState, claim_of}
 use Rattle.mk_model.specs.CoreStates.Way.{Place}
 use Rattle.mk_model.specs.Reductions.{IsNormal}
 use Rattle.mk_model.specs.Events.{IsPlaced, with_entry, IsSettling}

@@ -1,5 +1,5 @@
 -- The fields of a ledger where a claim is settled.
-use Rattle.std.proofs.Common.{◌≡◌, ◌⊎◌, inl, inr, ℕ, ◌+◌, ◌<◌, ◌≤◌, true, List, [], ◌∷◌, ◌++◌, length, get_or, set, map, Option, Some, None, IsSome, ℤ, arith, refl, sym, ap, ◌∙◌, subst}
+use Rattle.std.proofs.Common.{◌≡◌, ℕ, ◌<◌, true, List, [], ◌∷◌, ◌++◌, length, get_or, set, Option, Some, None, IsSome, arith, refl, sym, ap, ◌∙◌, subst}
 use Rattle.std.specs.Vec.{with_item}
 use Rattle.std.proofs.lemmas.List.{map-append, get_or_default}
 use Rattle.std.proofs.lemmas.Option.{none-some, same_Some}
@@ -10,15 +10,13 @@ use Rattle.mk_model.specs.CoreStates.{Pair, pair_of, Way, settle, Halt, CoreStat
 use Rattle.mk_model.specs.CoreStates.Way.{Zero}
 use Rattle.mk_model.specs.Events.{with_entry, IsSettling}
 use Rattle.mk_model.specs.Events.Event.{Settles}
-use Rattle.mk_model.specs.Legal.{IsLegal}
 use Rattle.mk_model.proofs.LegalEvents.{within_list, events_keep}
-use Rattle.mk_move.specs.MoveLists.{MoveList, IsBasis, vectors_of}
+use Rattle.mk_move.specs.MoveLists.{MoveList, vectors_of}
 use Rattle.mk_ledger.specs.declared.ledger.Ledger.TheInside.{Inside}
 use Rattle.mk_ledger.specs.declared.journal.JournalEntry.{JournalEntry}
-use Rattle.mk_ledger.specs.declared.journal.Kind.TheVariants as kind
 use Rattle.mk_ledger.specs.PairFlags.{PairFlags, pair_number}
 use Rattle.mk_ledger.specs.Entries.{settle_of, settles_of}
-use Rattle.mk_ledger.specs.Ledgers.{TheLedger, IsLedger, number_of, AreFlagged, AreInOrder}
+use Rattle.mk_ledger.specs.Ledgers.{TheLedger, number_of, AreFlagged, AreInOrder}
 use Rattle.mk_ledger.specs.LedgerFields.{ledger_of, AreFields}
 use Rattle.mk_ledger.specs.Settlings.{IsZeroClaim, AreSmall}
 use Rattle.mk_ledger.proofs.Settlings.{entry_keeps_order, entry_keeps_flags}

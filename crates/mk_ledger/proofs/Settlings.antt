@@ -1,10 +1,10 @@
 -- A claim that is settled: the order of the claims and the flags afterwards, also where a move is placed.
-use Rattle.std.proofs.Common.{◌≡◌, ◌≢◌, ◌⊎◌, inl, inr, ℕ, ◌+◌, ◌-◌, ◌<◌, ◌≤◌, Bool, true, false, List, [], ◌∷◌, ◌++◌, length, get_or, set, replicate, Option, Some, None, ℤ, arith, refl, sym, ap, ◌∙◌, subst, ⊎_elim, length-set, length-append}
+use Rattle.std.proofs.Common.{◌≡◌, ◌≢◌, ◌⊎◌, inl, inr, ℕ, ◌+◌, ◌-◌, ◌<◌, ◌≤◌, Bool, true, false, List, [], ◌∷◌, ◌++◌, length, get_or, set, replicate, Some, None, ℤ, arith, refl, sym, ap, ◌∙◌, subst, ⊎_elim, length-set, length-append}
 use Rattle.std.proofs.lemmas.Bool.{cases_eq, cases_lt, false≢true}
 use Rattle.std.proofs.lemmas.Option.{same_Some}
 use Rattle.std.proofs.lemmas.List.{get_or-set_same, get_or-set_other, get_or_past, get_or_append_left, get_or-append_right, get_or-replicate, length-replicate}
 use Rattle.std.proofs.lemmas.List.Elements.{Contains-push}
-use Rattle.mk_model.specs.CoreStates.{Pair, Way, Settle, settle, CoreState, claim_of, IsPairOf, IsSettled, IsClaimed, IsFree}
+use Rattle.mk_model.specs.CoreStates.{Pair, Way, Settle, settle, CoreState, claim_of, IsPairOf, IsSettled, IsClaimed}
 use Rattle.mk_model.specs.Events.{with_entry}
 use Rattle.mk_model.proofs.Journals.{settled_more, settled_cases}
 use Rattle.mk_model.proofs.LegalEvents.{cleared}

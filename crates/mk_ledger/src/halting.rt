@@ -8,8 +8,8 @@ use crate::halt::{Halt, KeptHalt};
 use crate::ledger::Ledger;
 
 impl Ledger {
-    /// A worker that has no halt yet halts, where its claim has cause for it: it gives the claim up. A basis that has its
-    /// limit of moves is no such cause, since placing a move finds it.
+    /// Halts a worker that has no halt, for an overflow at its claim or for want of memory, and gives its claim up. For a
+    /// basis that has its limit of moves, `settle_place` halts it.
     pub fn halt(&mut self, worker: u32, halt: Halt)
         requires worker { worker < self.old.state.workers }
         requires no_halt { halt_of self.old.state worker ≡ None }
@@ -21,7 +21,7 @@ impl Ledger {
         self.keep_halt(worker, halt);
     }
 
-    /// Keeps the halt of a worker, the first one if none stood, and gives up its claim.
+    /// Keeps the halt of a worker that has none, and gives its claim up. It is the first to halt if no other did.
     pub(crate) fn keep_halt(&mut self, worker: u32, halt: Halt)
         requires worker { worker < self.old.state.workers }
         requires no_halt { halt_of self.old.state worker ≡ None }

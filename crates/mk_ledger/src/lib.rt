@@ -25,6 +25,7 @@ pub use journal::{Journal, JournalEntry, Kind};
 pub use ledger::Ledger;
 pub use numbers::pair_number;
 pub use parts::LedgerParts;
+pub use settles::PlaceFault;
 
 #[cfg(test)]
 mod tests;

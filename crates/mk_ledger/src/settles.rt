@@ -14,12 +14,14 @@ use crate::ledger::Ledger;
 use mk_model::NoMemory;
 use mk_move::{Basis, Move};
 
-/// Why a move is not placed: there is no memory, or the basis has more moves than the move was reduced by; both hand it
-/// back. Or the basis has its limit of moves.
+/// Why a move is not placed.
 #[derive(Debug, Drop)]
 pub enum PlaceFault {
+    /// There is no memory for this move.
     Memory { given: Move },
+    /// The basis has more moves than this one was reduced by: so many.
     Behind { length: u32, given: Move },
+    /// The basis has its limit of moves, and the worker halts for it.
     BasisFull,
 }
 
@@ -38,9 +40,9 @@ impl Ledger {
         Ok(())
     }
 
-    /// Settles the claim of a worker by a move, which is its difference reduced by so many of the first moves, and gives
-    /// the move's place. `Behind` comes where the basis has got more moves meanwhile, and `BasisFull` where it has its
-    /// limit of moves: then the worker halts.
+    /// Settles the claim of a worker by a move that is placed behind the last one, and gives its place. The move is the
+    /// claim's difference, reduced by the first `front` moves. `Behind` comes where the basis has more of them, and else
+    /// `BasisFull` where it has its limit: then the worker halts. After the other faults all is as before.
     pub fn settle_place(
         &mut self,
         worker: u32,
@@ -65,7 +67,7 @@ impl Ledger {
         self.place(worker, remainder)
     }
 
-    /// The worker halts since the basis has its limit of moves.
+    /// The worker halts, since the basis has its limit of moves and its claim needs another.
     fn halt_full(&mut self, worker: u32)
         requires { IsFullClaim self.old.state worker }
         ensures halting { HaltsFull self.old.state worker self.new.state }
@@ -81,7 +83,7 @@ impl Ledger {
         );
     }
 
-    /// Places the move behind the last one, where there is room.
+    /// Settles the claim of a worker by a move for which there is room, and gives its place.
     fn place(&mut self, worker: u32, m: Move) -> Result<u32, PlaceFault>
         requires reduct { IsReductOfClaim self.old.state worker (length self.old.basis.moves) m.entries }
         requires belongs { BelongsTo self.old.basis.priority self.old.basis.grading m }
@@ -117,7 +119,7 @@ impl Ledger {
     }
 }
 
-/// The entry of a pair that a worker settled, with the third move or the new place, or 0.
+/// The entry of a pair that a worker settled. `third` is the third move for Chain, the new place for Place, and 0 else.
 fn entry_of(held: Held, worker: u32, third: u32, kind: Kind) -> JournalEntry
     requires small { AreSmall held worker }
     requires third { third < 65536 }
@@ -157,7 +159,8 @@ fn append(
     grown
 }
 
-/// Puts the move at the end of the basis, and flags for its pairs behind the others.
+/// Puts the move at the end of the basis, and flags for its pairs, none of them settled. After a refusal all is as before,
+/// and the move is handed back.
 fn grow(basis: &mut Basis, settled: &mut SettledBits, m: Move) -> Result<(), PlaceFault>
     requires belongs { BelongsTo basis.old.priority basis.old.grading m }
     requires flags { AreFlagsOf basis.old.moves settled.old }
@@ -172,9 +175,7 @@ fn grow(basis: &mut Basis, settled: &mut SettledBits, m: Move) -> Result<(), Pla
         Ok(()) => Ok(()),
         Err(fault) => {
             settled.shrink();
-            Err(PlaceFault::Memory {
-                given: fault.given,
-            })
+            Err(PlaceFault::Memory { given: fault.given })
         }
     }
 }

@@ -1,5 +1,5 @@
-use Rattle.std.proofs.Common.{◌≡◌, length, subst, sym, ap, ◌∙◌, All, List, ℤ, ℕ, Ok, Some}
-use Rattle.mk_move.specs.Moves.{Weighed, ReadsRow}
+use Rattle.std.proofs.Common.{◌≡◌, length, subst, sym, All, List, ℤ, ℕ, Ok}
+use Rattle.mk_move.specs.Moves.{ReadsRow}
 use Rattle.mk_move.specs.MoveLists.{BelongsTo}
 use Rattle.mk_reduce.proofs.BasisMoves.{row_belongs, columns_of}
 use Rattle.mk_reduce.proofs.NextSteps.{lead_columns}

@@ -6,7 +6,7 @@ use Rattle.mk_model.specs.Overflows.{IsTimesDividing}
 use Rattle.mk_move.specs.Moves.{Weighed}
 use Rattle.mk_move.specs.MoveLists.{MoveList, IsBasis, vectors_of}
 use Rattle.mk_reduce.specs.declared.step.Step.{Step}
-use Rattle.mk_reduce.specs.Works.{TheWork, IsRest, IsStep, after_step, Leaves, IsStepMore}
+use Rattle.mk_reduce.specs.Works.{TheWork, IsRest, IsStep, after_step, IsLeftAfter, IsStepMore}
 use Rattle.mk_reduce.proofs.Beginnings.{length-vectors_of}
 use Rattle.mk_reduce.proofs.Heights.{height, step_lowers, IsLevel}
 use Rattle.mk_reduce.proofs.BasisMoves.{grading_of, level_of}
@@ -30,7 +30,7 @@ module _ (basis : MoveList) (h : IsBasis basis) where
       let v = get_or basis.moves step.place no_move in
       rw (vector_is step.place) (step_lowers (grading_of basis.grading h.grading) basis.priority r v.entries step.times l (level_of basis h v b) b.oriented (subst (λ x. IsTimesDividing x r step.times) (vector_is step.place) d.divides))
 
-  left_falls : (from : Weighed) (step : Step) (left : Option Weighed) → IsRest basis.grading from → Leaves basis from step left → to_do basis left < to_do basis (Some from)
+  left_falls : (from : Weighed) (step : Step) (left : Option Weighed) → IsRest basis.grading from → IsLeftAfter basis from step left → to_do basis left < to_do basis (Some from)
   left_falls from step None r d = omega arith
   left_falls from step (Some m) r d =
       let level : IsLevel (grading_of basis.grading h.grading) basis.priority from.entries = record { columns = r.columns; product = r.graded.product } in

@@ -15,7 +15,7 @@ use Rattle.mk_move.specs.MoveLists.{MoveList, vectors_of}
 use Rattle.mk_move.specs.Steps.{minus_times, TakesOff, IsStepFault}
 use Rattle.mk_move.specs.declared.steps.StepFault.{StepFault}
 use Rattle.mk_reduce.specs.declared.step.Step.{Step}
-use Rattle.mk_reduce.specs.Works.{TheWork, WorkOf, rest_of, IsStep, after_step, LeadsTo, IsStepMore, IsRest, Leaves}
+use Rattle.mk_reduce.specs.Works.{TheWork, WorkOf, rest_of, IsStep, after_step, LeadsTo, IsStepMore, IsRest, IsLeftAfter}
 use Rattle.mk_reduce.proofs.Beginnings.{length-vectors_of, rest_is, rest_graded}
 
 leads_more : (moves : List (List ℤ)) (r : List ℤ) (trace : List Step) (last next : List ℤ) (step : Step) → LeadsTo moves r trace last → IsStep moves last step → next ≡ after_step moves last step → LeadsTo moves r (trace ++ step ∷ []) next
@@ -114,7 +114,7 @@ module _ (basis : MoveList) (work : TheWork) (h : WorkOf work basis) where
 -- what is taken off, and why it isn't
 pub left_or_not : (basis : MoveList) (from : Weighed) (step : Step) (v : List ℤ) (result : Result (Option Weighed) StepFault) → IsRest basis.grading from → IsStep (vectors_of basis.moves) from.entries step →
     move_at (vectors_of basis.moves) step.place ≡ v → length v ≡ length basis.grading → TakesOff from.entries step.times v basis.grading result →
-    MatchResult result (Leaves basis from step) (IsStepFault from.entries (move_at (vectors_of basis.moves) step.place) step.times)
+    MatchResult result (IsLeftAfter basis from step) (IsStepFault from.entries (move_at (vectors_of basis.moves) step.place) step.times)
 left_or_not basis from step v (Ok left) r d e l t = record {
   taken = d;
   entries = rest_is from.entries v basis.grading step.times left r.columns t ∙ ap (minus_times from.entries step.times) (sym e);

@@ -42,7 +42,7 @@ pub record IsRest (w : List ℤ) (m : Weighed) : Type 0 where
   pub graded : IsGraded w m
 
 -- what a step leaves of a move, and none for zero
-pub record Leaves (basis : MoveList) (from : Weighed) (step : Step) (left : Option Weighed) : Type 0 where
+pub record IsLeftAfter (basis : MoveList) (from : Weighed) (step : Step) (left : Option Weighed) : Type 0 where
   pub taken : IsStep (vectors_of basis.moves) from.entries step
   pub entries : rest_of (length basis.grading) left ≡ after_step (vectors_of basis.moves) from.entries step
   pub graded : IfSome left (IsRest basis.grading)
@@ -53,7 +53,7 @@ pub record IsStepMore (basis : MoveList) (before after : TheWork) : Type 0 where
   pub step : Step
   pub left : Option Weighed
   pub was : before.remainder ≡ Some from
-  pub leaves : Leaves basis from step left
+  pub leaves : IsLeftAfter basis from step left
   pub changed : after ≡ record before { remainder = left; trace = before.trace ++ step ∷ [] }
 
 -- Work on a pair of the basis. Each place of the trace is below the front, unless the front is 0 and something is left.

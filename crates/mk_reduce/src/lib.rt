@@ -14,3 +14,6 @@ pub use reduction::reduce;
 pub use step::Step;
 pub use stop::Stop;
 pub use work::Work;
+
+#[cfg(test)]
+mod tests;

@@ -6,7 +6,7 @@ ghost use Rattle.mk_move.specs.MoveLists.{IsBasis, vectors_of};
 ghost use Rattle.mk_move.specs.Sides.{part_of, DividesAt};
 ghost use Rattle.mk_move.specs.Steps.{IsStepFault};
 ghost use Rattle.mk_reduce.specs.Leads.{leads_of};
-ghost use Rattle.mk_reduce.specs.Works.{WorkOf, IsRest, IsStep, Leaves, Advances, IsReduced, GoesOn};
+ghost use Rattle.mk_reduce.specs.Works.{WorkOf, IsRest, IsStep, IsLeftAfter, Advances, IsReduced, GoesOn};
 ghost use Rattle.mk_reduce.specs.Stops.{IsStepRefused};
 
 use crate::step::Step;
@@ -89,7 +89,7 @@ fn left_after(
     requires rest { IsRest basis.now.grading rest.now }
     requires step { IsStep (vectors_of basis.now.moves) rest.now.entries step }
     requires times { IsEntry step.times }
-    ensures { MatchResult result (Leaves basis.now rest.now step)
+    ensures { MatchResult result (IsLeftAfter basis.now rest.now step)
         (IsStepFault rest.now.entries (move_at (vectors_of basis.now.moves) step.place) step.times) }
 {
     subtract_times(

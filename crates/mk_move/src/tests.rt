@@ -93,6 +93,8 @@ fn lists_begin_with_a_column(rt: HostRuntime) -> Result<(), Fail> {
     let list = Priority::first(rt.alloc(), 4, 1)?;
     let copy = list.try_copy()?;
     assert_eq!(rt; copy.as_slice(), [1, 3, 2, 0].as_slice());
+    assert_eq!(rt; copy.columns(), 4);
+    assert_eq!(rt; copy.column_at(1), 3);
     Ok(())
 }
 
@@ -102,6 +104,8 @@ fn gradings_are_copied(rt: HostRuntime) -> Result<(), Fail> {
     let copy = grading.try_copy()?;
     assert_eq!(rt; copy.columns(), 3);
     assert_eq!(rt; copy.product(&[1, 10, 100]), 543);
+    assert_eq!(rt; copy.lead_weight(&[1, -10, 100]), 503);
+    assert_eq!(rt; copy.weight_at(2), 5);
     Ok(())
 }
 
@@ -112,6 +116,16 @@ fn moves_are_copied(rt: HostRuntime) -> Result<(), Fail> {
     let copy = opposite(&rt, 1, &grading, &list)?.try_copy()?;
     assert_opposite(&rt, &copy, 1);
     assert_eq!(rt; copy.weight(), 1);
+    Ok(())
+}
+
+#[test]
+fn moves_are_turned(rt: HostRuntime) -> Result<(), Fail> {
+    let grading = ones(&rt)?;
+    let list = last_first(&rt)?;
+    let mut turned = opposite(&rt, 1, &grading, &list)?;
+    turned.orient(&Priority::first(rt.alloc(), 2, 0)?);
+    assert_opposite(&rt, &turned, -1);
     Ok(())
 }
 
@@ -194,6 +208,8 @@ fn bases_keep_their_moves(rt: HostRuntime) -> Result<(), Fail> {
     basis.push(one)?;
     let copy = basis.try_copy()?;
     assert_eq!(rt; copy.len(), 1);
+    assert_eq!(rt; copy.priority().columns(), 2);
+    assert_eq!(rt; copy.grading().columns(), 2);
     assert_opposite(&rt, copy.move_at(0), 1);
     Ok(())
 }

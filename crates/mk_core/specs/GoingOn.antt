@@ -1,0 +1,60 @@
+-- How a completion by one worker goes on from a ledger to a later one, and where it ends.
+use Rattle.std.specs.Prelude.{◌≡◌, ◌≢◌, ℕ, ◌≤◌, ◌<◌, List, ◌++◌, length, None, Some}
+use Rattle.mk_model.specs.CoreStates.{Pair, Settle, Halt, CoreState, claim_of, halt_of, start_of, IsFree}
+use Rattle.mk_model.specs.Legal.{IsEnded}
+use Rattle.mk_ledger.specs.Entries.{settles_of}
+use Rattle.mk_ledger.specs.Ledgers.{TheLedger, IsLedger}
+use Rattle.mk_core.specs.declared.phase.Phase.{Phase}
+use Rattle.mk_core.specs.declared.completion.Ending.{Ending}
+use Rattle.mk_core.specs.declared.completion.Ending.TheVariants.{Ended, OverBudget, Halted}
+
+-- The later ledger has the same list, grading, start, budget and limit, and no fewer claims were made; its journal begins
+-- with the earlier one's; and the first halt stays.
+pub record GoesOn (before after : TheLedger) : Type 0 where
+  pub priority : after.basis.priority ≡ before.basis.priority
+  pub grading : after.basis.grading ≡ before.basis.grading
+  pub start_length : after.state.start_length ≡ before.state.start_length
+  pub start : start_of after.state ≡ start_of before.state
+  pub budget : after.state.budget ≡ before.state.budget
+  pub limit : after.state.limit ≡ before.state.limit
+  pub made : before.state.claims_made ≤ after.state.claims_made
+  pub more : List Settle
+  pub journal : after.state.journal ≡ before.state.journal ++ more
+  pub no_halt : after.state.first_halted ≡ None → before.state.first_halted ≡ None
+  pub first_stays : (worker : ℕ) (halt : Halt) → before.state.first_halted ≡ Some worker → halt_of before.state worker ≡ Some halt →
+      (after.state.first_halted ≡ Some worker) × (halt_of after.state worker ≡ Some halt)
+
+-- no worker has a claim
+abbrev pub NoneClaims : CoreState → Type 0
+NoneClaims state = (worker : ℕ) → claim_of state worker ≡ None
+
+-- the pair is the claim of the first worker, and no other has one
+pub record FirstClaims (state : CoreState) (pair : Pair) : Type 0 where
+  pub claimed : claim_of state 0 ≡ Some pair
+  pub others : (worker : ℕ) → ¬ (worker ≡ 0) → claim_of state worker ≡ None
+
+-- it goes on, and no worker has a claim
+pub record GoesOnUnclaimed (before after : TheLedger) : Type 0 where
+  pub goes_on : GoesOn before after
+  pub unclaimed : NoneClaims after.state
+
+-- The first worker is given a pair, where no worker had one, and one claim more is made, within the budget.
+pub record IsPairGiven (before after : TheLedger) (pair : Pair) : Type 0 where
+  pub goes_on : GoesOn before after
+  pub basis : after.basis ≡ before.basis
+  pub claims : FirstClaims after.state pair
+  pub made : before.state.claims_made < after.state.claims_made
+  pub within_budget : before.state.claims_made < before.state.budget
+
+-- every pair is settled; or as many as the budget has, while a pair is left; or a worker halted
+abbrev pub EndsBy : CoreState → Ending → Type 0
+EndsBy state Ended = (state.first_halted ≡ None) × IsEnded state
+EndsBy state OverBudget = (state.first_halted ≡ None) × (length state.journal ≡ state.budget) × ((pair : Pair) × IsFree state pair)
+EndsBy state Halted = state.first_halted ≢ None
+
+-- the phase has what the ledger has
+pub record IsPhaseOf (ledger : TheLedger) (phase : Phase) : Type 0 where
+  pub start_length : phase.start_len ≡ ledger.state.start_length
+  pub basis : phase.basis ≡ ledger.basis
+  pub journal : settles_of phase.journal ≡ ledger.state.journal
+  pub kept : IsLedger ledger

@@ -1,0 +1,78 @@
+-- Phases of a completion, what they go on from, and why a completion stops. (Sturmfels, chapters 1, 5 and 12: Buchberger's
+-- algorithm for a lattice, and its saturation)
+use Rattle.std.specs.Prelude.{◌≡◌, ℕ, List, ◌++◌, length, None, Result, Ok, Err}
+use Rattle.mk_model.specs.CoreStates.{Pair, pair_of, Settle, Halt, CoreState, new_state, phase_state, start_of, IsPairOf, IsSettled}
+use Rattle.mk_model.specs.CoreStates.Halt.{Overflow as HaltOverflow, Full as HaltFull}
+use Rattle.mk_model.specs.Events.{HasNormalReduct}
+use Rattle.mk_model.specs.Legal.{IsLegal, IsEnded}
+use Rattle.mk_model.specs.Overflows.{IsGenuineOverflow}
+use Rattle.mk_move.specs.MoveLists.{IsBasis, vectors_of}
+use Rattle.mk_ledger.specs.Entries.{settles_of}
+use Rattle.mk_ledger.specs.Halts.{stop_of}
+use Rattle.mk_ledger.specs.Ledgers.{TheLedger}
+use Rattle.mk_core.specs.declared.phase.Job.{Job}
+use Rattle.mk_core.specs.declared.phase.Phase.{Phase}
+use Rattle.mk_core.specs.declared.phase.Stopped.{Stopped}
+use Rattle.mk_core.specs.declared.phase.Stopped.TheVariants.{Memory, Overflow, OverBudget, BasisFull}
+
+-- the ledger that a job begins with, for one worker
+abbrev pub ledger_for : Job → TheLedger
+ledger_for job = record { basis = job.start; state = new_state (vectors_of job.start.moves) job.budget job.basis_limit 1 }
+
+-- a phase as a state without workers, read with a budget and a limit
+abbrev pub state_of : Phase → ℕ → ℕ → CoreState
+state_of phase budget limit = phase_state phase.start_len (vectors_of phase.basis.moves) (settles_of phase.journal) budget limit
+
+-- A phase that goes on from a ledger: it has the same list, grading and start, its journal begins with the ledger's, and
+-- replays legally within the ledger's budget and limit.
+pub record IsPhaseFrom (ledger : TheLedger) (phase : Phase) : Type 0 where
+  pub basis : IsBasis phase.basis
+  pub priority : phase.basis.priority ≡ ledger.basis.priority
+  pub grading : phase.basis.grading ≡ ledger.basis.grading
+  pub start_length : phase.start_len ≡ ledger.state.start_length
+  pub start : start_of (state_of phase ledger.state.budget ledger.state.limit) ≡ start_of ledger.state
+  pub more : List Settle
+  pub journal : settles_of phase.journal ≡ ledger.state.journal ++ more
+  pub legal : IsLegal (length ledger.basis.grading) ledger.basis.priority (state_of phase ledger.state.budget ledger.state.limit)
+
+-- a pair of the basis that isn't settled
+pub record IsLeft (phase : Phase) (pair : Pair) : Type 0 where
+  pub of_basis : IsPairOf (vectors_of phase.basis.moves) pair
+  pub unsettled : ¬ (IsSettled (settles_of phase.journal) pair)
+
+-- as many pairs as the budget has are settled, no halt stood, and a pair is left
+pub record IsOverBudget (ledger : TheLedger) (phase : Phase) : Type 0 where
+  pub used_up : length phase.journal ≡ ledger.state.budget
+  pub no_halt : ledger.state.first_halted ≡ None
+  pub pair : Pair
+  pub left : IsLeft phase pair
+
+-- the basis has its limit of moves, and the pair, which is left, needs another
+pub record IsBasisFull (limit : ℕ) (phase : Phase) (pair : Pair) : Type 0 where
+  pub full : length phase.basis.moves ≡ limit
+  pub normal_reduct : HasNormalReduct (vectors_of phase.basis.moves) pair
+  pub left : IsLeft phase pair
+
+-- What going on from a ledger gives: a phase in which every pair is settled, or why it stopped. No cause is given for want
+-- of memory.
+abbrev pub Finishes : TheLedger → Result Phase Stopped → Type 0
+Finishes ledger (Ok phase) = IsPhaseFrom ledger phase × IsEnded (state_of phase ledger.state.budget ledger.state.limit)
+Finishes ledger (Err Memory) = Unit {0}
+Finishes ledger (Err (Overflow phase stop)) =
+    IsPhaseFrom ledger phase × IsLeft phase (stop_of stop).pair × IsGenuineOverflow (vectors_of phase.basis.moves) (stop_of stop)
+Finishes ledger (Err (OverBudget phase)) = IsPhaseFrom ledger phase × IsOverBudget ledger phase
+Finishes ledger (Err (BasisFull phase i j)) = IsPhaseFrom ledger phase × IsBasisFull ledger.state.limit phase (pair_of i j)
+
+-- A halt that stands is the answer, unless there is no memory.
+abbrev pub HandsOn : Halt → Result Phase Stopped → Type 0
+HandsOn halt (Err Memory) = Unit {0}
+HandsOn (HaltOverflow kept) (Err (Overflow phase stop)) = stop_of stop ≡ kept
+HandsOn (HaltFull pair) (Err (BasisFull phase i j)) = pair_of i j ≡ pair
+HandsOn halt (Err stopped) = ⊥
+HandsOn halt (Ok phase) = ⊥
+
+-- The journal replays legally from the start, and every pair is settled.
+pub record IsCompleted (phase : Phase) : Type 0 where
+  pub basis : IsBasis phase.basis
+  pub legal : IsLegal (length phase.basis.grading) phase.basis.priority (state_of phase (length phase.journal) 65536)
+  pub ended : IsEnded (state_of phase (length phase.journal) 65536)

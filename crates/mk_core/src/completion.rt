@@ -1,0 +1,260 @@
+//! Completion by one worker: pair after pair is claimed, its difference reduced, and the pair settled.
+
+ghost use Rattle.std.specs.Prelude.{◌≡◌, ◌≢◌, ◌≤◌, ◌<◌, ℕ, length, None, Some, Ok, Err, IfOk, IfErr, OnOk, OnErr, MatchResult};
+ghost use Rattle.mk_model.specs.CoreStates.{Halt, pair_of, claim_of, halt_of, IsPairOf};
+ghost use Rattle.mk_model.specs.Legal.{IsEnded};
+ghost use Rattle.mk_move.specs.MoveLists.{vectors_of};
+ghost use Rattle.mk_reduce.specs.Leads.{leads_of};
+ghost use Rattle.mk_core.specs.GoingOn.{GoesOn, GoesOnUnclaimed, IsPairGiven, NoneClaims, FirstClaims, EndsBy, IsPhaseOf};
+ghost use Rattle.mk_core.specs.Phases.{ledger_for, Finishes, HandsOn};
+ghost use Rattle.mk_core.specs.Remainders.{IsRemainder, IsRemainderOfClaim, IsWorkFault, fault_for};
+
+use crate::completed::Completed;
+use crate::phase::{Job, Phase, Stopped};
+use mk_ledger::{Claim, Ledger, LedgerParts, OverflowStop, PlaceFault};
+use mk_model::NoMemory;
+use mk_move::{Basis, Finder, Move};
+use mk_reduce::{PlainFinder, Stop, critical, reduce};
+use std::alloc::Global;
+
+/// Completes the start of a job: settles each pair of the basis, in their order, until every pair is joined below. A pair
+/// whose difference doesn't reduce to 0 is settled by its remainder, which becomes the next move.
+///
+/// The start has at most `basis_limit` moves, and the limit is at most 65,536. `Stopped` has what was done until then:
+/// `Overflow` names the first entry out of range; `OverBudget` comes where as many pairs are settled as the budget has while
+/// one is left; `BasisFull` where the basis has its limit of moves while a pair needs another. (Sturmfels, chapters 1 and
+/// 12: Buchberger's algorithm for a lattice)
+pub fn complete_alone(alloc: Global, job: Job) -> Result<Completed, Stopped>
+    requires start { length job.start.moves ≤ job.basis_limit }
+    requires limit { job.basis_limit ≤ 65536 }
+    ensures { Finishes (ledger_for job) result }
+{
+    let Job {
+        start,
+        budget,
+        basis_limit,
+    } = job;
+    let ledger = Ledger::new(alloc, start, budget, basis_limit, 1)?;
+    finish_alone(alloc, ledger)
+}
+
+/// Goes on from a ledger in which no worker has a claim, as `complete_alone` does from the start, within the ledger's budget
+/// and limit. Where a halt stands already, it is the answer. (Sturmfels, chapters 1 and 12)
+pub fn finish_alone(alloc: Global, mut ledger: Ledger) -> Result<Completed, Stopped>
+    requires unclaimed { (worker : ℕ) → claim_of ledger.state worker ≡ None }
+    ensures answer { Finishes ledger result }
+    ensures halted { (worker : ℕ) (halt : Halt) → ledger.state.first_halted ≡ Some worker → halt_of ledger.state worker ≡ Some halt → HandsOn halt result }
+{
+    let mut finder = finder_of(alloc, ledger.basis())?;
+    match settle_pairs(alloc, &mut ledger, &mut finder)? {
+        Ending::Ended => Ok(ended(ledger)),
+        Ending::OverBudget => Err(over_budget(ledger)),
+        Ending::Halted => Err(stopped_by(ledger)),
+    }
+}
+
+/// Where settling pairs ends: every pair is settled; as many as the budget has, while one is left; or a worker halted.
+#[derive(Clone, Copy, Debug, PartialEq, Eq)]
+enum Ending {
+    Ended,
+    OverBudget,
+    Halted,
+}
+
+/// Why the work on a pair stops: want of memory, or an entry that leaves its range.
+#[derive(Debug, Drop)]
+enum WorkFault {
+    Memory,
+    Overflow(OverflowStop),
+}
+
+/// A finder of the leads of a basis.
+fn finder_of(alloc: Global, basis: &Basis) -> Result<PlainFinder, NoMemory>
+    ensures { IfOk result (λ finder. finder ≡ leads_of basis.now.moves) }
+{
+    let mut finder = PlainFinder::new(alloc);
+    for place in 0..basis.len() {
+        finder.insert(basis.move_at(place))?;
+    }
+    Ok(finder)
+}
+
+/// Settles pair after pair until no pair is claimed, and says why none is.
+fn settle_pairs(
+    alloc: Global,
+    ledger: &mut Ledger,
+    finder: &mut PlainFinder,
+) -> Result<Ending, NoMemory>
+    requires unclaimed { NoneClaims ledger.old.state }
+    requires leads { finder.old ≡ leads_of ledger.old.basis.moves }
+    ensures goes_on { OnOk result (GoesOn ledger.old ledger.new) }
+    ensures ending { IfOk result (EndsBy ledger.new.state) }
+{
+    loop {
+        match next_pair(ledger) {
+            Ok((i, j)) => settle_pair(alloc, ledger, finder, i, j)?,
+            Err(ending) => return Ok(ending),
+        }
+    }
+}
+
+/// The next pair, which is the worker's from now on, or why there is none.
+fn next_pair(ledger: &mut Ledger) -> Result<(u32, u32), Ending>
+    requires { NoneClaims ledger.old.state }
+    ensures pair { IfOk result (λ pair. IsPairGiven ledger.old ledger.new (pair_of pair.0 pair.1)) }
+    ensures ending { IfErr result (EndsBy ledger.new.state) }
+    ensures same { OnErr result (ledger.new ≡ ledger.old) }
+{
+    // Whoever has its basis knows that it is legal, and has a worker.
+    let _ = ledger.basis();
+    match ledger.claim(0) {
+        Claim::Claimed { i, j } => Ok((i, j)),
+        Claim::Ended => Err(Ending::Ended),
+        Claim::OverBudget { .. } => Err(Ending::OverBudget),
+        Claim::Stopped { .. } => Err(Ending::Halted),
+        Claim::NotYet { .. } => unreachable!(),
+    }
+}
+
+/// Settles the pair that the worker has claimed, or halts where an entry leaves its range or the basis is full.
+fn settle_pair(
+    alloc: Global,
+    ledger: &mut Ledger,
+    finder: &mut PlainFinder,
+    i: u32,
+    j: u32,
+) -> Result<(), NoMemory>
+    requires claimed { FirstClaims ledger.old.state (pair_of i j) }
+    requires leads { finder.old ≡ leads_of ledger.old.basis.moves }
+    ensures goes_on { OnOk result (GoesOnUnclaimed ledger.old ledger.new) }
+    ensures leads { OnOk result (finder.new ≡ leads_of ledger.new.basis.moves) }
+{
+    match work_on(alloc, ledger.basis(), finder, i, j) {
+        Ok(Some(remainder)) => place_remainder(ledger, finder, remainder),
+        Ok(None) => ledger.settle_zero(0),
+        Err(WorkFault::Overflow(stop)) => {
+            ledger.halt(0, mk_ledger::Halt::Overflow(stop));
+            Ok(())
+        }
+        Err(WorkFault::Memory) => Err(NoMemory),
+    }
+}
+
+/// What is left of the difference of a pair, reduced by the basis: none for zero.
+fn work_on(
+    alloc: Global,
+    basis: &Basis,
+    finder: &PlainFinder,
+    i: u32,
+    j: u32,
+) -> Result<Option<Move>, WorkFault>
+    requires leads { finder.now ≡ leads_of basis.now.moves }
+    requires pair { IsPairOf (vectors_of basis.now.moves) (pair_of i j) }
+    ensures { MatchResult result (IsRemainder basis.now (pair_of i j)) (IsWorkFault (vectors_of basis.now.moves) (pair_of i j)) }
+{
+    let mut work = match critical(alloc, basis, i, j) {
+        Ok(work) => work,
+        Err(stop) => return Err(work_fault(i, j, None, stop)),
+    };
+    match reduce(alloc, &mut work, basis, finder) {
+        Ok(()) => Ok(work.into_remainder()),
+        Err(stop) => Err(work_fault(i, j, work.into_remainder(), stop)),
+    }
+}
+
+/// The fault for a stop of the work on a pair, where so much was left.
+fn work_fault(i: u32, j: u32, operand: Option<Move>, stop: Stop) -> WorkFault
+    ensures { result ≡ fault_for (pair_of i j) operand stop }
+{
+    match stop {
+        Stop::Memory => WorkFault::Memory,
+        Stop::Overflow { by, at } => WorkFault::Overflow(OverflowStop {
+            i,
+            j,
+            by,
+            operand,
+            at,
+        }),
+    }
+}
+
+/// Settles the claimed pair by its remainder, oriented, and gives the finder its lead; or halts where the basis is full.
+fn place_remainder(
+    ledger: &mut Ledger,
+    finder: &mut PlainFinder,
+    mut remainder: Move,
+) -> Result<(), NoMemory>
+    requires remainder { IsRemainderOfClaim ledger.old remainder }
+    requires leads { finder.old ≡ leads_of ledger.old.basis.moves }
+    ensures goes_on { OnOk result (GoesOnUnclaimed ledger.old ledger.new) }
+    ensures leads { OnOk result (finder.new ≡ leads_of ledger.new.basis.moves) }
+{
+    remainder.orient(ledger.basis().priority());
+    let front = ledger.basis().len();
+    match ledger.settle_place(0, front, remainder) {
+        Ok(place) => finder.insert(ledger.basis().move_at(place)),
+        Err(PlaceFault::BasisFull) => Ok(()),
+        Err(PlaceFault::Memory { .. }) => Err(NoMemory),
+        Err(PlaceFault::Behind { .. }) => unreachable!(),
+    }
+}
+
+/// The phase of a ledger in which every pair is settled.
+fn ended(ledger: Ledger) -> Completed
+    requires { IsEnded ledger.state }
+    ensures { Finishes ledger (Ok result) }
+{
+    Completed::of_phase(phase_of(ledger))
+}
+
+/// Why a ledger stops in which as many pairs are settled as the budget has.
+fn over_budget(ledger: Ledger) -> Stopped
+    requires { EndsBy ledger.state Ending.OverBudget }
+    ensures { Finishes ledger (Err result) }
+{
+    Stopped::OverBudget {
+        phase: phase_of(ledger),
+    }
+}
+
+/// What a ledger has done.
+fn phase_of(ledger: Ledger) -> Phase
+    ensures { IsPhaseOf ledger result }
+{
+    let LedgerParts {
+        start_len,
+        basis,
+        journal,
+        ..
+    } = ledger.into_parts();
+    Phase {
+        start_len,
+        basis,
+        journal,
+    }
+}
+
+/// Why a ledger stops in which a halt stands.
+fn stopped_by(ledger: Ledger) -> Stopped
+    requires { EndsBy ledger.state Ending.Halted }
+    ensures answer { Finishes ledger (Err result) }
+    ensures halted { (worker : ℕ) (halt : Halt) → ledger.state.first_halted ≡ Some worker → halt_of ledger.state worker ≡ Some halt → HandsOn halt (Err result) }
+{
+    let LedgerParts {
+        start_len,
+        basis,
+        journal,
+        first_halt,
+    } = ledger.into_parts();
+    let phase = Phase {
+        start_len,
+        basis,
+        journal,
+    };
+    match first_halt {
+        Some(mk_ledger::Halt::Overflow(stop)) => Stopped::Overflow { phase, stop },
+        Some(mk_ledger::Halt::Full { i, j }) => Stopped::BasisFull { phase, i, j },
+        Some(mk_ledger::Halt::Memory) => Stopped::Memory,
+        None => unreachable!(),
+    }
+}

@@ -1,0 +1,11 @@
+//! Completion of a basis by one worker: each pair of its moves is settled, by the ledger, until every pair is joined below.
+#![tactic(auto)]
+
+mod completed;
+mod completion;
+mod phase;
+
+pub use completed::Completed;
+pub use completion::{complete_alone, finish_alone};
+pub use mk_ledger::{Journal, JournalEntry, Kind};
+pub use phase::{Job, Phase, Stopped};

@@ -168,6 +168,7 @@ pub flags_fresh : (old words : List ℕ) (n count : ℕ) → old ≡ [] → word
 flags_fresh old words n count none e =
     let z : 0 + count ≡ count = omega arith in
     ap (flags_of words) (sym z) ∙ flags_clear words 0 count (λ k _. zeros_alone old words n k none e)
+
 -- ---- one move fewer, of whose pairs none is settled
 module _ (words : List ℕ) (moves : ℕ) (h : AreWords words moves) (some : 0 < moves) (clear : (k : ℕ) → pairs_of (moves - 1) ≤ k → get_or (flags_of words (pairs_of moves)) k false ≡ false) where
   shrunk_clear : (k : ℕ) → pairs_of (moves - 1) ≤ k → flag_at words k ≡ false

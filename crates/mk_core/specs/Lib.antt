@@ -1,3 +1,4 @@
 pub mod Phases
 pub mod GoingOn
 pub mod Remainders
+pub mod SaturatedBases

@@ -5,3 +5,4 @@ pub mod Settling
 pub mod Limits
 pub mod Finishing
 pub mod Completions
+pub mod NeededMoves

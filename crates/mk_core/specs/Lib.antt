@@ -2,3 +2,4 @@ pub mod Phases
 pub mod GoingOn
 pub mod Remainders
 pub mod SaturatedBases
+pub mod Redundancy

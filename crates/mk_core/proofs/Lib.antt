@@ -6,3 +6,4 @@ pub mod Limits
 pub mod Finishing
 pub mod Completions
 pub mod Remainders
+pub mod NeededMoves

@@ -1,3 +1,5 @@
 pub mod Phases
 pub mod GoingOn
 pub mod Remainders
+pub mod SaturatedBases
+pub mod Redundancy

@@ -3,9 +3,13 @@
 
 mod completed;
 mod completion;
+mod dropping;
 mod phase;
+mod saturated;
 
 pub use completed::Completed;
 pub use completion::{complete_alone, finish_alone};
+pub use dropping::drop_redundant;
 pub use mk_ledger::{Journal, JournalEntry, Kind};
 pub use phase::{Job, Phase, Stopped};
+pub use saturated::SaturatedBasis;

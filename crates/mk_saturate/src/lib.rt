@@ -1,6 +1,13 @@
-//! Saturation of a lattice: the basis that its rows begin.
+//! Saturation of a lattice: the basis that its rows begin, and the columns that are saturated one after another.
 #![tactic(auto)]
 
+mod columns;
+mod saturation;
 mod start;
+mod turning;
 
+pub use saturation::Saturation;
 pub use start::start_basis;
+
+#[cfg(test)]
+mod tests;

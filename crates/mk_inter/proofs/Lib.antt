@@ -1,0 +1,10 @@
+pub mod SaturatedLists
+pub mod LeastTails
+pub mod Bases
+pub mod TailSteps
+pub mod FoundLeads
+pub mod MovesMoved
+pub mod MovesSorted
+pub mod Permuted
+pub mod ReducedLists
+pub mod SameLattices

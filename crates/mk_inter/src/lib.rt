@@ -1,0 +1,9 @@
+//! The reduced basis of a lattice: redundant moves dropped, and tails reduced.
+#![tactic(auto)]
+
+mod sorting;
+mod tail;
+mod tails;
+
+pub use mk_core::drop_redundant;
+pub use tails::{ReducedBasis, TailFault, reduce_tails};

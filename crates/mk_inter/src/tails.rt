@@ -1,0 +1,161 @@
+ghost use Rattle.std.specs.Prelude.{◌≡◌, ◌<◌, ◌^◌, IfOk, IfErr, length, All};
+ghost use Rattle.std.specs.List.{AllZip};
+ghost use Rattle.mk_model.specs.Lattices.{SameLattice};
+ghost use Rattle.mk_model.specs.ReducedBases.{IsReducedBasis};
+ghost use Rattle.mk_move.specs.MoveLists.{BelongsTo, vectors_of};
+ghost use Rattle.mk_reduce.specs.Leads.{leads_of};
+ghost use Rattle.mk_core.specs.SaturatedBases.{IsSaturated};
+ghost use Rattle.mk_inter.specs.Tails.{IsReducedList, IsTailFault};
+ghost use Rattle.mk_inter.specs.TailSteps.{IsReducedFrom};
+
+use crate::sorting::sort_moves;
+use crate::tail::reduce_tail;
+use mk_core::SaturatedBasis;
+use mk_model::NoMemory;
+use mk_move::{Basis, Finder, Move, OverflowAt};
+use mk_reduce::PlainFinder;
+use std::alloc::{AllocError, AllocFailed, Global};
+use std::marker::Model;
+
+/// Why tails can't be reduced: want of memory, or a column where an entry leaves the range, in a step on the tail of the move
+/// of an index, by the move of the place `by`, from the vector `operand`.
+#[derive(Debug, Drop)]
+pub enum TailFault {
+    Memory,
+    Overflow {
+        index: u32,
+        by: u32,
+        operand: Move,
+        at: OverflowAt,
+    },
+}
+
+impl From<NoMemory> for TailFault {
+    ghost use Rattle.std.specs.Prelude.{◌≡◌};
+    ghost use Rattle.mk_inter.specs.declared.tails.TailFault.TheVariants.{Memory};
+
+    ghost from_gives = { λ _ e. e ≡ Memory };
+
+    fn from(_e: NoMemory) -> TailFault {
+        TailFault::Memory
+    }
+}
+
+impl From<AllocError> for TailFault {
+    ghost use Rattle.std.specs.Prelude.{◌≡◌};
+    ghost use Rattle.mk_inter.specs.declared.tails.TailFault.TheVariants.{Memory};
+
+    ghost from_gives = { λ _ e. e ≡ Memory };
+
+    fn from(_e: AllocError) -> TailFault {
+        TailFault::Memory
+    }
+}
+
+impl<T: Drop> From<AllocFailed<T>> for TailFault {
+    ghost use Rattle.std.specs.Prelude.{◌≡◌};
+    ghost use Rattle.mk_inter.specs.declared.tails.TailFault.TheVariants.{Memory};
+
+    ghost from_gives = { λ _ e. e ≡ Memory };
+
+    fn from(_e: AllocFailed<T>) -> TailFault {
+        TailFault::Memory
+    }
+}
+
+/// The reduced basis of the lattice that its moves span, ascending by move order.
+#[derive(Debug, Drop)]
+pub struct ReducedBasis {
+    basis: Basis,
+}
+
+impl Model for ReducedBasis {
+    ghost use Rattle.mk_move.specs.MoveLists.{MoveList};
+    ghost use Rattle.mk_inter.specs.Tails.{IsReducedList};
+
+    ghost Value = { MoveList };
+
+    ghost view = { λ r. r.basis };
+
+    ghost invariant = { λ r. IsReducedList r.basis };
+}
+
+impl ReducedBasis {
+    /// Its moves.
+    pub fn basis(&self) -> &Basis
+        ensures value { result.now ≡ self.now }
+        ensures kept { IsReducedList self.now }
+    {
+        &self.basis
+    }
+
+    /// A copy of it.
+    pub fn try_copy(&self) -> Result<ReducedBasis, NoMemory>
+        ensures { IfOk result (λ copy. copy ≡ self.now) }
+    {
+        let basis = self.basis.try_copy()?;
+        Ok(ReducedBasis { basis })
+    }
+}
+
+/// The reduced basis of the lattice: each tail of a move is replaced by the least vector of its fibre, and the moves ascend by
+/// move order. (Sturmfels, chapter 1: the reduced basis)
+pub fn reduce_tails(alloc: Global, basis: &SaturatedBasis) -> Result<ReducedBasis, TailFault>
+    ensures reduced { IfOk result (λ reduced. IsReducedBasis (length basis.now.grading) (vectors_of basis.now.moves) basis.now.grading (vectors_of reduced.moves)) }
+    ensures lattice { IfOk result (λ reduced. SameLattice (length basis.now.grading) (vectors_of basis.now.moves) (vectors_of reduced.moves)) }
+    ensures grading { IfOk result (λ reduced. reduced.grading ≡ basis.now.grading) }
+    ensures refused { IfErr result (IsTailFault basis.now) }
+{
+    let basis = basis.basis();
+    let finder = finder_of(alloc, basis)?;
+    let mut tails = all_tails(alloc, basis, &finder)?;
+    sort_moves(&mut tails)?;
+    let reduced = basis_of(alloc, basis, tails)?;
+    Ok(ReducedBasis { basis: reduced })
+}
+
+/// A finder of the leads of a basis.
+fn finder_of(alloc: Global, basis: &Basis) -> Result<PlainFinder, NoMemory>
+    ensures { IfOk result (λ finder. finder ≡ leads_of basis.now.moves) }
+{
+    let mut finder = PlainFinder::new(alloc);
+    for place in 0..basis.len() {
+        finder.insert(basis.move_at(place))?;
+    }
+    Ok(finder)
+}
+
+/// The moves of a saturated basis, each with its tail reduced, in their order.
+fn all_tails(alloc: Global, basis: &Basis, finder: &PlainFinder) -> Result<Vec<Move>, TailFault>
+    requires saturated { IsSaturated basis.now }
+    requires leads { finder.now ≡ leads_of basis.now.moves }
+    ensures reduced { IfOk result (λ tails. AllZip (IsReducedFrom basis.now) (vectors_of basis.now.moves) tails.items) }
+    ensures refused { IfErr result (IsTailFault basis.now) }
+{
+    let mut tails = Vec::new(alloc);
+    for index in 0..basis.len() {
+        let tail = reduce_tail(alloc, basis, finder, index)?;
+        tails.push(tail)?;
+    }
+    Ok(tails)
+}
+
+/// A basis with these moves, and the list and the grading of another.
+fn basis_of(alloc: Global, basis: &Basis, moves: Vec<Move>) -> Result<Basis, NoMemory>
+    requires columns { length basis.now.priority ≡ length basis.now.grading }
+    requires belongs { All (BelongsTo basis.now.priority basis.now.grading) moves.items }
+    requires few { length moves.items < 2 ^ 32 }
+    ensures moves { IfOk result (λ made. made.moves ≡ moves.items) }
+    ensures priority { IfOk result (λ made. made.priority ≡ basis.now.priority) }
+    ensures grading { IfOk result (λ made. made.grading ≡ basis.now.grading) }
+{
+    let priority = basis.priority().try_copy()?;
+    let grading = basis.grading().try_copy()?;
+    let mut made = Basis::new(alloc, priority, grading);
+    for m in moves {
+        if made.push(m).is_err() {
+            return Err(NoMemory);
+        }
+    }
+    Ok(made)
+}

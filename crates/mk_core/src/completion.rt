@@ -68,8 +68,8 @@ enum WorkFault {
     Overflow(OverflowStop),
 }
 
-/// A finder of the leads of a basis.
-fn finder_of(alloc: Global, basis: &Basis) -> Result<PlainFinder, NoMemory>
+/// A finder of the leads of a basis, in their order.
+pub fn finder_of(alloc: Global, basis: &Basis) -> Result<PlainFinder, NoMemory>
     ensures { IfOk result (λ finder. finder ≡ leads_of basis.now.moves) }
 {
     let mut finder = PlainFinder::new(alloc);

@@ -8,7 +8,7 @@ mod phase;
 mod saturated;
 
 pub use completed::Completed;
-pub use completion::{complete_alone, finish_alone};
+pub use completion::{complete_alone, finder_of, finish_alone};
 pub use dropping::drop_redundant;
 pub use mk_ledger::{Journal, JournalEntry, Kind};
 pub use phase::{Job, Phase, Stopped};

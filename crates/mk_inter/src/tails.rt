@@ -10,9 +10,9 @@ ghost use Rattle.mk_inter.specs.TailSteps.{IsReducedFrom};
 
 use crate::sorting::sort_moves;
 use crate::tail::reduce_tail;
-use mk_core::SaturatedBasis;
+use mk_core::{SaturatedBasis, finder_of};
 use mk_model::NoMemory;
-use mk_move::{Basis, Finder, Move, OverflowAt};
+use mk_move::{Basis, Move, OverflowAt};
 use mk_reduce::PlainFinder;
 use std::alloc::{AllocError, AllocFailed, Global};
 use std::marker::Model;
@@ -112,17 +112,6 @@ pub fn reduce_tails(alloc: Global, basis: &SaturatedBasis) -> Result<ReducedBasi
     sort_moves(&mut tails)?;
     let reduced = basis_of(alloc, basis, tails)?;
     Ok(ReducedBasis { basis: reduced })
-}
-
-/// A finder of the leads of a basis.
-fn finder_of(alloc: Global, basis: &Basis) -> Result<PlainFinder, NoMemory>
-    ensures { IfOk result (λ finder. finder ≡ leads_of basis.now.moves) }
-{
-    let mut finder = PlainFinder::new(alloc);
-    for place in 0..basis.len() {
-        finder.insert(basis.move_at(place))?;
-    }
-    Ok(finder)
 }
 
 /// The moves of a saturated basis, each with its tail reduced, in their order.

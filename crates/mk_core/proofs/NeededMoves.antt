@@ -22,6 +22,9 @@ use Rattle.mk_core.specs.Redundancy.{is_redundant_at, makes_redundant}
 pub divides_is : (result : Bool) (v m : List ℤ) → (IsTrue result ↔ Divides (lead v) (lead m)) → result ≡ has_divisor m v
 divides_is result v m h = same_from_decides result (has_divisor m v) h (Decides-divides (lead v) (lead m))
 
+not_lesser : (a b : ℕ) → b ≤ a → nat_lt a b ≡ false
+not_lesser a b l = grind (arith, nat_tests)
+
 divides_itself : (m : List ℤ) → has_divisor m m ≡ true
 divides_itself m = (Decides-divides (lead m) (lead m)).1 (Divides-itself (lead m))
 
@@ -39,7 +42,7 @@ module _ (moves : List Weighed) (other place : ℕ) (v m : Weighed) (h : slice_g
 
   -- it divides and doesn't stand before
   pub dividing_behind : has_divisor m.entries v.entries ≡ true → place ≤ other → (back : Bool) → back ≡ has_divisor v.entries m.entries → not back ≡ makes_redundant (vectors_of moves) other place
-  dividing_behind e l back f = let g : nat_lt other place ≡ false = grind (arith, nat_tests) in rw (test_at, e, g, f) refl
+  dividing_behind e l back f = rw (test_at, e, not_lesser other place l, f) refl
 
 -- ---- the test of one place
 either : (a b : Bool) → (a ≡ true) ⊎ (b ≡ true) → (a || b) ≡ true
@@ -57,9 +60,6 @@ fails_behind : (a b c : Bool) → (a && (b || c)) ≡ false → b ≡ false → 
 fails_behind true b c e f = sym (ap (λ x. x || c) f) ∙ e
 fails_behind false b c e f = refl
 
-not_lesser : (a b : ℕ) → b ≤ a → nat_lt a b ≡ false
-not_lesser a b l = grind (arith, nat_tests)
-
 module _ (moves : List (List ℤ)) (place : ℕ) where
   abbrev before : List (List ℤ)
   before = take place moves
@@ -67,11 +67,11 @@ module _ (moves : List (List ℤ)) (place : ℕ) where
   abbrev behind : List (List ℤ)
   behind = drop (place + 1) moves
 
-  -- does its lead divide
+  -- does the lead of v divide that of the move of the place
   abbrev divides : List ℤ → Bool
   divides v = has_divisor (move_at moves place) v
 
-  -- and is it another
+  -- and isn't it divided in turn
   abbrev differs : List ℤ → Bool
   differs v = has_divisor (move_at moves place) v && not (has_divisor v (move_at moves place))
 
@@ -95,13 +95,14 @@ module _ (moves : List (List ℤ)) (place : ℕ) where
       let h : i < length behind = omega (arith, length-drop (place + 1) moves) in
       list_any_at differs behind i [] h (ap differs (at_behind i [] h ∙ ap (move_at moves) there) ∙ e)
 
-  -- a move that makes it redundant, and isn't before it, stands behind
+  -- a lead that isn't divided in turn is of another move
   stands_behind : (other : ℕ) → place ≤ other → not (has_divisor (move_at moves other) (move_at moves place)) ≡ true → place < other
   stands_behind other l e = ⊎_elim (λ k. k) (λ k. same (omega arith)) (cases_lt place other)
     where
       same : place ≡ other → place < other
       same f = absurd (both_ways (has_divisor (move_at moves other) (move_at moves place)) (not-true _ e) (subst (λ k. has_divisor (move_at moves k) (move_at moves place) ≡ true) f (divides_itself (move_at moves place))))
 
+  -- one place makes the move redundant
   pub made_redundant : (other : ℕ) → other < length moves → makes_redundant moves other place ≡ true → is_redundant_at moves place ≡ true
   made_redundant other l e = either (list_any divides before) (list_any differs behind) (cases (cases_lt other place))
     where
@@ -114,6 +115,7 @@ module _ (moves : List (List ℤ)) (place : ℕ) where
           let f : not (has_divisor (move_at moves other) (move_at moves place)) ≡ true = sym (ap (λ b. b || not (has_divisor (move_at moves other) (move_at moves place))) (not_lesser other place k)) ∙ parts.1 in
           inr (by_behind other l (stands_behind other k f) (rw (parts.0, f) refl))
 
+  -- no place does
   pub none_redundant : place < length moves → ((other : ℕ) → other < length moves → makes_redundant moves other place ≡ false) → is_redundant_at moves place ≡ false
   none_redundant l none = neither (list_any divides before) (list_any differs behind) (list_any_none divides before before_fails) (list_any_none differs behind behind_fails)
     where
@@ -136,9 +138,11 @@ module _ (moves : List (List ℤ)) (place : ℕ) (l : place < length moves) wher
   left : drop place moves ≡ move_at moves place ∷ drop (place + 1) moves
   left = drop-cons moves place [] l ∙ ap (λ k. move_at moves place ∷ drop k moves) (sym (add-one place))
 
+  -- a redundant move is passed over
   pub needed_past : is_redundant_at moves place ≡ true → needed (take place moves) (drop place moves) ≡ needed (take (place + 1) moves) (drop (place + 1) moves)
   needed_past e = rw (left, e, taken) refl
 
+  -- another one is needed
   pub needed_here : is_redundant_at moves place ≡ false → needed (take place moves) (drop place moves) ≡ move_at moves place ∷ needed (take (place + 1) moves) (drop (place + 1) moves)
   needed_here e = rw (left, e, taken) refl
 
@@ -150,17 +154,12 @@ pub record IsKeptUpTo (basis : MoveList) (place : ℕ) (kept : MoveList) : Type 
   pub few : length kept.moves ≤ place
   pub needed : vectors_of kept.moves ++ needed (take place (vectors_of basis.moves)) (drop place (vectors_of basis.moves)) ≡ drop_redundant (vectors_of basis.moves)
 
-pub kept_begins : (basis kept : MoveList) → kept.moves ≡ [] → kept.priority ≡ basis.priority → kept.grading ≡ basis.grading → IsKeptUpTo basis 0 kept
-kept_begins basis kept none p w = record {
-  priority = p;
-  grading = w;
-  few = omega (arith, ap length none);
-  needed = ap (λ (moves : List Weighed). vectors_of moves ++ drop_redundant (vectors_of basis.moves)) none;
-}
-
 module _ (basis : MoveList) (place : ℕ) (kept : MoveList) (so_far : IsKeptUpTo basis place kept) where
   abbrev moves : List (List ℤ)
   moves = vectors_of basis.moves
+
+  abbrev needed_from : ℕ → List (List ℤ)
+  needed_from k = needed (take k moves) (drop k moves)
 
   -- the move of the place is redundant
   pub kept_past : place < length basis.moves → is_redundant_at (vectors_of basis.moves) place ≡ true → IsKeptUpTo basis (place + 1) kept
@@ -180,16 +179,17 @@ module _ (basis : MoveList) (place : ℕ) (kept : MoveList) (so_far : IsKeptUpTo
     needed = put ∙ ap (λ rest. vectors_of kept.moves ++ rest) (sym here) ∙ so_far.needed;
   })
     where
-      put : vectors_of (kept.moves ++ m ∷ []) ++ needed (take (place + 1) moves) (drop (place + 1) moves) ≡ vectors_of kept.moves ++ m.entries ∷ needed (take (place + 1) moves) (drop (place + 1) moves)
+      put : vectors_of (kept.moves ++ m ∷ []) ++ needed_from (place + 1) ≡ vectors_of kept.moves ++ m.entries ∷ needed_from (place + 1)
       put =
-          ap (λ vectors. vectors ++ needed (take (place + 1) moves) (drop (place + 1) moves)) (map_push (λ (m : Weighed). m.entries) kept.moves m)
-          ∙ append_assoc (vectors_of kept.moves) (m.entries ∷ []) (needed (take (place + 1) moves) (drop (place + 1) moves))
+          ap (λ vectors. vectors ++ needed_from (place + 1)) (map_push (λ (m : Weighed). m.entries) kept.moves m)
+          ∙ append_assoc (vectors_of kept.moves) (m.entries ∷ []) (needed_from (place + 1))
 
-      here : needed (take place moves) (drop place moves) ≡ m.entries ∷ needed (take (place + 1) moves) (drop (place + 1) moves)
+      here : needed_from place ≡ m.entries ∷ needed_from (place + 1)
       here =
           needed_here moves place (omega (arith, length-vectors_of basis.moves, slice_get_within basis.moves place m at)) e
-          ∙ ap (λ v. v ∷ needed (take (place + 1) moves) (drop (place + 1) moves)) (vector_at basis.moves place m at)
+          ∙ ap (λ v. v ∷ needed_from (place + 1)) (vector_at basis.moves place m at)
 
+  -- at the end no place is left
   pub kept_all : length basis.moves ≤ place → vectors_of kept.moves ≡ drop_redundant (vectors_of basis.moves)
   kept_all l =
       let none : drop place moves ≡ [] = drop_all place moves (omega (arith, length-vectors_of basis.moves)) in

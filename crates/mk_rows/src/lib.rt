@@ -1,5 +1,12 @@
-//! Whole runs over a folder in memory, each with what it must give. The tests are all there is.
+//! Whole runs over a folder in memory, and the calls below them on small lattices, each with what it must give. The tests are
+//! all there is.
 #![tactic(auto)]
 
+#[cfg(test)]
+mod bases;
+#[cfg(test)]
+mod completions;
+#[cfg(test)]
+mod lower;
 #[cfg(test)]
 mod tests;

@@ -1,0 +1,172 @@
+-- A run between two phases: what is reached by those that the book has, and what the next phase adds to it.
+use Rattle.std.proofs.Common.{◌≡◌, ◌⊎◌, inl, inr, ℕ, ◌-◌, ◌≤◌, List, [], ◌∷◌, ◌++◌, length, None, Err, ℤ, refl, arith, ap, sym, ◌∙◌, subst, take}
+use Rattle.std.specs.List.{AllZip}
+use Rattle.std.proofs.lemmas.List.{length-map}
+use Rattle.mk_model.specs.CoreStates.{pair_of}
+use Rattle.mk_model.specs.Lattices.{SameLattice}
+use Rattle.mk_model.specs.Legal.{IsLegal, IsEnded}
+use Rattle.mk_model.specs.Saturation.{drop_redundant}
+use Rattle.mk_model.specs.Tables.{Grid, rows_of}
+use Rattle.mk_model.specs.Vectors.{negate}
+use Rattle.mk_model.proofs.VectorAlgebra.{negate-negate}
+use Rattle.mk_model.proofs.LegalEvents.{phase_is_legal}
+use Rattle.mk_move.specs.MoveLists.{MoveList, vectors_of}
+use Rattle.mk_ledger.specs.Entries.{settle_of}
+use Rattle.mk_core.specs.Phases.{ledger_for, state_of, IsPhaseFrom, IsBasisFull}
+use Rattle.mk_core.specs.declared.phase.Job.{Job}
+use Rattle.mk_core.specs.declared.phase.Phase.{Phase}
+use Rattle.mk_saturate.specs.Starts.{IsRowTurned}
+use Rattle.mk_saturate.specs.Saturations.{IsJob, IsPhaseOf}
+use Rattle.mk_saturate.proofs.Jobs.{phase_of_job}
+use Rattle.mk_saturate.proofs.Spans.{SameLattice-transitive}
+use Rattle.mk_solve.specs.Books.{Book, settled_of}
+use Rattle.mk_solve.specs.Solutions.{IsPhaseAlong, IsPhaseEnded, Saturate, SaturateRows, StandsAt, HasStopped, Solves}
+use Rattle.mk_solve.specs.Steps.{stopped_at, IsCause, StopsIn, TakesPhase}
+use Rattle.mk_solve.specs.declared.book.BookStop.{BookStop}
+use Rattle.mk_solve.specs.declared.book.BookStop.TheVariants.{Overflow, Budget, BasisFull}
+use Rattle.mk_solve.specs.declared.book.OverflowPlace.TheVariants.{Pair, Tail, Degree}
+use Rattle.mk_solve.specs.declared.solving.RunStop.TheVariants.{Stopped}
+use Rattle.mk_solve.proofs.Sums.{settled_push}
+use Rattle.mk_solve.proofs.JobStops.{settled_within}
+
+-- ---- turning twice is turning once
+-- the move is the row or its negative
+abbrev pub IsEither : List ℤ → List ℤ → Type 0
+IsEither row move = (move ≡ row) ⊎ (move ≡ negate row)
+
+either_twice : (row middle move : List ℤ) → IsEither row middle → IsEither middle move → IsEither row move
+either_twice row middle move (inl e) (inl f) = inl (f ∙ e)
+either_twice row middle move (inl e) (inr f) = inr (f ∙ ap negate e)
+either_twice row middle move (inr e) (inl f) = inr (f ∙ e)
+either_twice row middle move (inr e) (inr f) = inl (f ∙ ap negate e ∙ negate-negate row)
+
+pub turned_twice : (p : List ℕ) (rows middle moves : List (List ℤ)) → AllZip IsEither rows middle → AllZip (IsRowTurned p) middle moves → AllZip (IsRowTurned p) rows moves
+turned_twice p [] [] [] z t = tt
+turned_twice p [] [] (move ∷ moves) z t = absurd t
+turned_twice p [] (m ∷ middle) moves z t = absurd z
+turned_twice p (row ∷ rows) [] moves z t = absurd z
+turned_twice p (row ∷ rows) (m ∷ middle) [] z t = absurd t
+turned_twice p (row ∷ rows) (m ∷ middle) (move ∷ moves) (e, z) (t, u) =
+    (record { either = either_twice row m move e t.either; oriented = t.oriented }, turned_twice p rows middle moves z u)
+
+pub either_turned : (p : List ℕ) (rows moves : List (List ℤ)) → AllZip (IsRowTurned p) rows moves → AllZip IsEither rows moves
+either_turned p [] [] t = tt
+either_turned p [] (move ∷ moves) t = absurd t
+either_turned p (row ∷ rows) [] t = absurd t
+either_turned p (row ∷ rows) (move ∷ moves) (t, u) = (t.either, either_turned p rows moves u)
+
+either_itself : (moves : List (List ℤ)) → AllZip IsEither moves moves
+either_itself [] = tt
+either_itself (move ∷ moves) = (inl refl, either_itself moves)
+
+-- ---- a phase more
+pub saturate_push : (w : List ℤ) (moves : List (List ℤ)) (lists : List (List ℕ)) (phases : List Phase) (rest : List (List ℤ)) (p : List ℕ) (left : List (List ℕ)) (phase : Phase) →
+    Saturate w moves lists phases rest (p ∷ left) → IsPhaseAlong w rest p phase → IsPhaseEnded phase →
+    Saturate w moves lists (phases ++ phase ∷ []) (drop_redundant (vectors_of phase.basis.moves)) left
+saturate_push w moves lists [] rest p left phase (e, f) along ended =
+    subst (λ lists. Saturate w moves lists (phase ∷ []) (drop_redundant (vectors_of phase.basis.moves)) left) f
+    (subst (λ moves. IsPhaseAlong w moves p phase) e along, ended, (refl, refl))
+saturate_push w moves [] (first ∷ phases) rest p left phase h along ended = absurd h
+saturate_push w moves (q ∷ lists) (first ∷ phases) rest p left phase (a, b, h) along ended =
+    (a, b, saturate_push w (drop_redundant (vectors_of first.basis.moves)) lists phases rest p left phase h along ended)
+
+-- ---- the phase of a job over the moves
+module _ (w : List ℤ) (rest : List (List ℤ)) (basis : MoveList) (p : List ℕ) (budget : ℕ) (job : Job) (phase : Phase)
+    (turned : AllZip IsEither rest (vectors_of basis.moves)) (same : basis.grading ≡ w) (h : IsJob basis p budget job) (from : IsPhaseFrom (ledger_for job) phase) where
+  legal_within : IsLegal (length job.start.grading) job.start.priority (state_of phase (length phase.journal) job.basis_limit)
+  legal_within =
+      phase_is_legal (length job.start.grading) job.start.priority (state_of phase job.budget job.basis_limit) (length phase.journal) (omega (arith, length-map phase.journal settle_of)) from.legal
+
+  legal : IsLegal (length w) p (state_of phase (length phase.journal) 65536)
+  legal =
+      subst (λ limit. IsLegal (length w) p (state_of phase (length phase.journal) limit)) h.limit
+      (subst (λ q. IsLegal (length w) q (state_of phase (length phase.journal) job.basis_limit)) h.priority
+      (subst (λ v. IsLegal (length v) job.start.priority (state_of phase (length phase.journal) job.basis_limit)) (h.grading ∙ same) legal_within))
+
+  phase_of : IsPhaseOf basis p phase
+  phase_of = phase_of_job basis p budget job phase h from
+
+  pub phase_along : IsPhaseAlong w rest p phase
+  phase_along = record {
+    kept = from.basis;
+    priority = phase_of.priority;
+    grading = phase_of.grading ∙ same;
+    begun = turned_twice p rest (vectors_of basis.moves) (take phase.start_len (vectors_of phase.basis.moves)) turned phase_of.begun;
+    legal = legal;
+  }
+
+ended_within : (phase : Phase) (budget limit : ℕ) → IsEnded (state_of phase budget limit) → IsPhaseEnded phase
+ended_within phase budget limit h = record { all_settled = h.all_settled; none_claimed = h.none_claimed }
+
+-- ---- between two phases
+-- The phases of the book, which are ended, lead to `rest`, which are the moves but for their signs; these lists are left.
+pub record IsReached (rows : List (List ℤ)) (w : List ℤ) (budget : ℕ) (rest : List (List ℤ)) (basis : MoveList) (book : Book) (left : List (List ℕ)) : Type 0 where
+  pub phases : SaturateRows rows w book.phases rest left
+  pub turned : AllZip IsEither rest (vectors_of basis.moves)
+  pub lattice : SameLattice (length w) rows (vectors_of basis.moves)
+  pub grading : basis.grading ≡ w
+  pub input : book.input ≡ None
+  pub reduced : book.reduced ≡ None
+  pub stop : book.stop ≡ None
+  pub within : settled_of book.phases ≤ budget
+
+module _ (rows : List (List ℤ)) (w : List ℤ) (budget : ℕ) (rest : List (List ℤ)) (basis : MoveList) (book : Book) (p : List ℕ) (left : List (List ℕ))
+    (h : IsReached rows w budget rest basis book (p ∷ left)) (job : Job) (j : IsJob basis p (budget - settled_of book.phases) job) where
+  along : (phase : Phase) → IsPhaseFrom (ledger_for job) phase → IsPhaseAlong w rest p phase
+  along phase from = phase_along w rest basis p (budget - settled_of book.phases) job phase h.turned h.grading j from
+
+  within_more : (phase : Phase) → IsPhaseFrom (ledger_for job) phase → settled_of (book.phases ++ phase ∷ []) ≤ budget
+  within_more phase from =
+      let given = j.budget_given in omega (arith, settled_push book.phases phase, settled_within job phase from, h.within, given)
+
+  -- a phase that is completed
+  pub reached_on : (taken : MoveList) (after : Book) → TakesPhase job basis book taken after → IsReached rows w budget (vectors_of taken.moves) taken after left
+  reached_on taken after t = subst (λ (b : Book). IsReached rows w budget (vectors_of taken.moves) taken b left) (sym t.kept) (record {
+    phases = subst (λ moves. SaturateRows rows w (book.phases ++ t.phase ∷ []) moves left) (sym t.dropped.moves) more;
+    turned = either_itself (vectors_of taken.moves);
+    lattice = SameLattice-transitive (length w) rows (vectors_of basis.moves) (vectors_of taken.moves) h.lattice
+        (subst (λ (v : List ℤ). SameLattice (length v) (vectors_of basis.moves) (vectors_of taken.moves)) h.grading t.dropped.lattice);
+    grading = t.dropped.grading ∙ h.grading;
+    input = h.input;
+    reduced = h.reduced;
+    stop = h.stop;
+    within = within_more t.phase t.from;
+  })
+    where
+      more : SaturateRows rows w (book.phases ++ t.phase ∷ []) (drop_redundant (vectors_of t.phase.basis.moves)) left
+      more = saturate_push w _ _ book.phases rest p left t.phase h.phases (along t.phase t.from) (ended_within t.phase job.budget job.basis_limit t.ended)
+
+  -- a phase that stopped
+  stands : (phase : Phase) (stop : BookStop) (number : ℕ) → number ≡ length book.phases → IsPhaseFrom (ledger_for job) phase → StandsAt rows w (stopped_at book phase stop) number phase
+  stands phase stop number e from = record {
+    earlier = book.phases;
+    all = refl;
+    counted = e;
+    moves = rest;
+    list = p;
+    left = left;
+    before = h.phases;
+    along = along phase from;
+    not_reduced = h.reduced;
+  }
+
+  has_stopped : (phase : Phase) (stop : BookStop) → IsPhaseFrom (ledger_for job) phase → IsCause job (length book.phases) (settled_of (book.phases ++ phase ∷ [])) phase stop → HasStopped rows w budget (stopped_at book phase stop) stop
+  has_stopped phase (Overflow (Pair number) stop) from (e, free, genuine) = (phase, stands phase (Overflow (Pair number) stop) number e from, free, genuine)
+  has_stopped phase (Overflow (Tail index) stop) from cause = absurd cause
+  has_stopped phase (Overflow Degree stop) from cause = absurd cause
+  has_stopped phase (Budget settled) from (e, over) =
+      let given = j.budget_given in
+      let used = over.used_up in
+      (e, omega (arith, e, settled_push book.phases phase, used, given, h.within), (length book.phases, phase, stands phase (Budget settled) (length book.phases) refl from, (over.pair, over.left)))
+  has_stopped phase (BasisFull number i k) from (e, full) =
+      (phase, stands phase (BasisFull number i k) number e from, subst (λ limit. IsBasisFull limit phase (pair_of i k)) j.limit full)
+
+  stopped_here : (phase : Phase) (stop : BookStop) → IsPhaseFrom (ledger_for job) phase → IsCause job (length book.phases) (settled_of (book.phases ++ phase ∷ [])) phase stop →
+      (grid : Grid) → rows_of grid ≡ rows → Solves grid w budget (Err Stopped) (stopped_at book phase stop)
+  stopped_here phase stop from cause grid e =
+      (h.input, within_more phase from, (stop, refl, subst (λ r. HasStopped r w budget (stopped_at book phase stop) stop) (sym e) (has_stopped phase stop from cause)))
+
+  pub stopped_solves : (grid : Grid) → rows_of grid ≡ rows → (after : Book) → StopsIn job book after → Solves grid w budget (Err Stopped) after
+  stopped_solves grid e after s =
+      subst (λ (b : Book). Solves grid w budget (Err Stopped) b) (sym s.kept)
+      (stopped_here s.phase s.stop s.from (subst (λ (b : Book). IsCause job (length book.phases) (settled_of b.phases) s.phase s.stop) s.kept s.cause) grid e)

@@ -1,0 +1,81 @@
+use Rattle.std.proofs.Common.{◌-◌, length, sym, refl, subst, Some, Option, Result}
+use Rattle.mk_model.specs.Orders.{standard}
+use Rattle.mk_model.specs.Tables.{rows_of}
+use Rattle.mk_move.specs.MoveLists.{MoveList}
+use Rattle.mk_core.specs.declared.phase.Job.{Job}
+use Rattle.mk_saturate.specs.Saturations.{NoneLeft, IsJob, IsNextJob}
+use Rattle.mk_solve.specs.Books.{settled_of}
+use Rattle.mk_solve.specs.Solutions.{Solves}
+use Rattle.mk_solve.specs.declared.solving.RunStop.{RunStop}
+use Rattle.mk_solve.specs.declared.solving.RunStop.TheVariants.{Memory}
+use Rattle.mk_solve.proofs.Faults.{the_error}
+use Rattle.mk_solve.proofs.Columns.{IsSaturating, nothing_kept, begins, column_done, column_refused, fewer, all_done, last_refused}
+use Rattle.mk_solve.proofs.Tails.{reduction_solves}
+use Rattle.mk_solve.proofs.solving.solve_alone.Goals as goal
+use Rattle.mk_solve.proofs.solving.solve_alone.Goals.{In-Some, In_ok-saturate_column, In_default, In_ok-job-2}
+
+-- ---- the job of the next column
+next_job : (c : In-Some) → IsNextJob c.loop-saturation.saturation (c.args.budget - settled_of c.loop-saturation.book.phases) (Some c.in-Some.job)
+next_job c =
+    subst (λ n. IsNextJob c.loop-saturation.saturation (c.args.budget - n) (Some c.in-Some.job)) c.settled.ensures
+    (subst (λ (found : Option Job). IsNextJob c.loop-saturation.saturation (c.args.budget - c.settled.result) found) c.in-Some.is c.in_ok-job.ensures)
+
+saturated_more : (c : In_ok-saturate_column) → IsNextJob c.loop-saturation.saturation (c.args.budget - settled_of c.loop-saturation.book.phases) (Some c.in-Some.job) →
+    IsSaturating (rows_of c.args.lat.now) c.args.grading.now c.args.budget c.saturate_column.new.saturation c.saturate_column.new.book
+saturated_more c next =
+    column_done (rows_of c.args.lat.now) c.args.grading.now c.args.budget c.loop-saturation.saturation c.loop-saturation.book c.loop-saturation.invariant c.in-Some.job next
+    c.saturate_column.new.saturation c.saturate_column.new.book c.in_ok-saturate_column.ensures.0 c.in_ok-saturate_column.ensures.1
+
+-- ---- the last job
+none_left : (c : In_default) → NoneLeft c.loop-saturation.saturation.left
+none_left c = subst (λ (found : Option Job). IsNextJob c.loop-saturation.saturation (c.args.budget - c.settled.result) found) c.in_default.is c.in_ok-job.ensures
+
+last_job : (c : In_ok-job-2) → IsJob c.loop-saturation.saturation.basis (standard (length c.loop-saturation.saturation.basis.grading)) (c.args.budget - settled_of c.loop-saturation.book.phases) c.in_ok-job-2.job
+last_job c =
+    subst (λ n. IsJob c.loop-saturation.saturation.basis (standard (length c.loop-saturation.saturation.basis.grading)) (c.args.budget - n) c.in_ok-job-2.job) c.settled-2.ensures c.in_ok-job-2.ensures
+
+pub returns-in_err-saturation : goal.returns-in_err-saturation
+returns-in_err-saturation c =
+    subst (λ (result : Result MoveList RunStop). Solves c.args.lat.now c.args.grading.now c.args.budget result c.args.book.now) (sym (the_error c.from_residual.result Memory c.from_residual.ensures.1))
+    (nothing_kept c.args.lat.now c.args.grading.now c.args.budget c.args.book.now c.requires.book)
+
+pub loop-saturation-init : goal.loop-saturation-init
+loop-saturation-init c =
+    begins (rows_of c.args.lat.now) c.args.grading.now c.args.lat.now.columns c.args.budget c.in_ok-saturation.saturation c.args.book.now c.requires.columns
+    c.in_ok-saturation.ensures.basis c.in_ok-saturation.ensures.left c.in_ok-saturation.ensures.lattice c.requires.book
+
+pub loop-saturation-smaller : goal.loop-saturation-smaller
+loop-saturation-smaller c =
+    let at = goal.at.loop-saturation-smaller c in
+    fewer c.args.grading.now (rows_of c.args.lat.now) c.args.budget c.in-Some.job c.loop-saturation.saturation.basis c.loop-saturation.book c.saturate_column.new.saturation c.saturate_column.new.book
+    c.in_ok-saturate_column.ensures.0 (saturated_more at.In_ok-saturate_column (next_job at.In-Some))
+
+pub loop-saturation-preserved : goal.loop-saturation-preserved
+loop-saturation-preserved c =
+    let at = goal.at.loop-saturation-preserved c in
+    saturated_more at.In_ok-saturate_column (next_job at.In-Some)
+
+pub returns-in_err-saturate_column : goal.returns-in_err-saturate_column
+returns-in_err-saturate_column c =
+    let fault = c.in_err-saturate_column.field-0.0 in
+    subst (λ (result : Result MoveList RunStop). Solves c.args.lat.now c.args.grading.now c.args.budget result c.saturate_column.new.book)
+    (sym (the_error c.from_residual-in_err-saturate_column.result fault c.from_residual-in_err-saturate_column.ensures.1))
+    (column_refused (rows_of c.args.lat.now) c.args.grading.now c.args.budget c.loop-saturation.saturation c.loop-saturation.book c.loop-saturation.invariant c.in-Some.job
+    (next_job (goal.at.returns-in_err-saturate_column c).In-Some) c.args.lat.now refl c.saturate_column.new.saturation c.saturate_column.new.book fault c.in_err-saturate_column.ensures)
+
+pub returns-in_err-saturated : goal.returns-in_err-saturated
+returns-in_err-saturated c =
+    let fault = c.in_err-saturated.field-0.0 in
+    let at = goal.at.returns-in_err-saturated c in
+    subst (λ (result : Result MoveList RunStop). Solves c.args.lat.now c.args.grading.now c.args.budget result c.finish.new.book)
+    (sym (the_error c.from_residual-in_err-saturated.result fault c.from_residual-in_err-saturated.ensures.1))
+    (last_refused (rows_of c.args.lat.now) c.args.grading.now c.args.budget c.loop-saturation.saturation c.loop-saturation.book c.loop-saturation.invariant (none_left at.In_default)
+    c.in_ok-job-2.job (last_job at.In_ok-job-2) c.args.lat.now refl c.finish.new.book fault c.in_err-saturated.ensures)
+
+pub returns : goal.returns
+returns c =
+    let at = goal.at.returns c in
+    reduction_solves c.args.lat.now c.args.grading.now c.args.budget c.in_ok-saturated.saturated c.finish.new.book
+    (all_done (rows_of c.args.lat.now) c.args.grading.now c.args.budget c.loop-saturation.saturation c.loop-saturation.book c.loop-saturation.invariant (none_left at.In_default)
+    c.in_ok-job-2.job (last_job at.In_ok-job-2) c.in_ok-saturated.saturated c.finish.new.book c.in_ok-saturated.ensures)
+    c.reduce.result c.reduce.new.book c.reduce.ensures

@@ -1,0 +1,107 @@
+-- What the steps of a run give, and what they leave in the book.
+use Rattle.std.specs.Prelude.{◌≡◌, ℕ, List, [], ◌∷◌, ◌++◌, length, Bool, false, set, Some, Result, Ok, Err, ℤ}
+use Rattle.mk_model.specs.CoreStates.{pair_of, OverflowStop}
+use Rattle.mk_model.specs.Legal.{IsEnded}
+use Rattle.mk_model.specs.Overflows.{IsGenuineOverflow, IsTailOverflow}
+use Rattle.mk_model.specs.ReducedBases.{IsReducedBasis}
+use Rattle.mk_move.specs.MoveLists.{MoveList, vectors_of}
+use Rattle.mk_ledger.specs.Halts.{stop_of}
+use Rattle.mk_ledger.specs.declared.halt.OverflowStop.{OverflowStop as KeptStop}
+use Rattle.mk_core.specs.Phases.{ledger_for, state_of, IsPhaseFrom, IsLeft, IsOverBudget, IsBasisFull, Finishes}
+use Rattle.mk_core.specs.declared.phase.Job.{Job}
+use Rattle.mk_core.specs.declared.phase.Phase.{Phase}
+use Rattle.mk_saturate.specs.Saturations.{TheSaturation, IsLeastLeft, IsDropped}
+use Rattle.mk_solve.specs.Books.{Book, settled_of}
+use Rattle.mk_solve.specs.declared.book.BookStop.{BookStop}
+use Rattle.mk_solve.specs.declared.book.BookStop.TheVariants.{Overflow, Budget, BasisFull}
+use Rattle.mk_solve.specs.declared.book.OverflowPlace.TheVariants.{Pair, Tail, Degree}
+use Rattle.mk_solve.specs.declared.solving.RunStop.{RunStop}
+use Rattle.mk_solve.specs.declared.solving.RunStop.TheVariants.{Memory, Stopped}
+
+-- the book with a phase at its end
+abbrev pub with_phase : Book → Phase → Book
+with_phase book phase = record book { phases = book.phases ++ phase ∷ [] }
+
+-- the book with a phase at its end, and a stop
+abbrev pub stopped_at : Book → Phase → BookStop → Book
+stopped_at book phase stop = record book { phases = book.phases ++ phase ∷ []; stop = Some stop }
+
+-- A phase at the end, and a stop. Without memory the book is as before.
+abbrev pub KeepsStop : Book → Phase → BookStop → RunStop → Book → Type 0
+KeepsStop before phase stop Stopped after = after ≡ stopped_at before phase stop
+KeepsStop before phase stop Memory after = after ≡ before
+
+-- Why the phase of a number stops, where the phases up to it settled so many pairs.
+abbrev pub IsCause : Job → ℕ → ℕ → Phase → BookStop → Type 0
+IsCause job number settled phase (Overflow (Pair n) stop) =
+    (n ≡ number) × IsLeft phase (stop_of stop).pair × IsGenuineOverflow (vectors_of phase.basis.moves) (stop_of stop)
+IsCause job number settled phase (Overflow (Tail index) stop) = ⊥
+IsCause job number settled phase (Overflow Degree stop) = ⊥
+IsCause job number settled phase (Budget n) = (n ≡ settled) × IsOverBudget (ledger_for job) phase
+IsCause job number settled phase (BasisFull n i j) = (n ≡ number) × IsBasisFull job.basis_limit phase (pair_of i j)
+
+-- the job's phase stopped: the book keeps it, and the stop with its cause
+pub record StopsIn (job : Job) (before after : Book) : Type 0 where
+  pub phase : Phase
+  pub stop : BookStop
+  pub from : IsPhaseFrom (ledger_for job) phase
+  pub cause : IsCause job (length before.phases) (settled_of after.phases) phase stop
+  pub kept : after ≡ stopped_at before phase stop
+
+-- the completed phase of a job, or why it stopped
+abbrev pub Completes : Job → Book → Result Phase RunStop → Book → Type 0
+Completes job before (Ok phase) after = Finishes (ledger_for job) (Ok phase) × (after ≡ before)
+Completes job before (Err Memory) after = after ≡ before
+Completes job before (Err Stopped) after = StopsIn job before after
+
+-- the job's phase is completed: the book keeps it, and what it leaves of the moves is taken
+pub record TakesPhase (job : Job) (moves : MoveList) (before : Book) (taken : MoveList) (after : Book) : Type 0 where
+  pub phase : Phase
+  pub from : IsPhaseFrom (ledger_for job) phase
+  pub ended : IsEnded (state_of phase job.budget job.basis_limit)
+  pub dropped : IsDropped moves phase taken
+  pub kept : after ≡ with_phase before phase
+
+-- the least column that is left, and no other, is taken out of those that are left
+abbrev pub IsLeastTaken : List Bool → List Bool → Type 0
+IsLeastTaken left after = (column : ℕ) × IsLeastLeft left column × (after ≡ set left column false)
+
+-- a column is saturated by the phase of a job, or the job's phase stopped
+abbrev pub TakesColumn : TheSaturation → Job → Book → Result Unit RunStop → TheSaturation → Book → Type 0
+TakesColumn now job before (Ok done) next after = TakesPhase job now.basis before next.basis after × IsLeastTaken now.left next.left
+TakesColumn now job before (Err Memory) next after = after ≡ before
+TakesColumn now job before (Err Stopped) next after = StopsIn job before after
+
+-- the last phase leaves the saturated basis, or it stopped
+abbrev pub TakesLast : MoveList → Job → Book → Result MoveList RunStop → Book → Type 0
+TakesLast moves job before (Ok saturated) after = TakesPhase job moves before saturated after
+TakesLast moves job before (Err Memory) after = after ≡ before
+TakesLast moves job before (Err Stopped) after = StopsIn job before after
+
+-- an entry left the range in a step on the tail of the move of an index
+pub record IsTailStop (moves : List (List ℤ)) (index : ℕ) (stop : OverflowStop) : Type 0 where
+  pub place : ℕ
+  pub operand : List ℤ
+  pub pair : stop.pair ≡ pair_of index index
+  pub by : stop.by ≡ Some place
+  pub from : stop.operand ≡ Some operand
+  pub genuine : IsTailOverflow moves index place operand stop
+
+-- the reduced basis, which the book keeps
+pub record KeepsReduced (saturated : MoveList) (before : Book) (basis : MoveList) (after : Book) : Type 0 where
+  pub reduced : IsReducedBasis (length saturated.grading) (vectors_of saturated.moves) saturated.grading (vectors_of basis.moves)
+  pub grading : basis.grading ≡ saturated.grading
+  pub kept : after ≡ record before { reduced = Some basis }
+
+-- a stop at a tail, which the book keeps
+pub record KeepsTailStop (saturated : MoveList) (before after : Book) : Type 0 where
+  pub index : ℕ
+  pub stop : KeptStop
+  pub cause : IsTailStop (vectors_of saturated.moves) index (stop_of stop)
+  pub kept : after ≡ record before { stop = Some (Overflow (Tail index) stop) }
+
+-- the reduced basis, or why there is none
+abbrev pub Reduces : MoveList → Book → Result MoveList RunStop → Book → Type 0
+Reduces saturated before (Ok basis) after = KeepsReduced saturated before basis after
+Reduces saturated before (Err Memory) after = after ≡ before
+Reduces saturated before (Err Stopped) after = KeepsTailStop saturated before after

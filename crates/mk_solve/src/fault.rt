@@ -1,0 +1,22 @@
+use mk_files::TableFault;
+
+/// A file of a project.
+#[derive(Clone, Copy, Debug, PartialEq, Eq)]
+pub enum InputFile {
+    Lat,
+    Mat,
+    Grade,
+}
+
+/// What is wrong with the input. Tried in this order.
+#[derive(Clone, Copy, Debug, PartialEq, Eq)]
+pub enum InputFault {
+    /// The project's `.lat` is not there.
+    NoLattice,
+    /// A file has more than 67108864 bytes: so many were read.
+    FileSize { file: InputFile, read: u64 },
+    /// A file is no table.
+    Table { file: InputFile, fault: TableFault },
+    /// Some row has a sum other than 0.
+    NoGrading,
+}

@@ -1,0 +1,13 @@
+//! Solving a lattice: its saturation, phase by phase, and the reduced basis, with the book that keeps what was done.
+#![tactic(auto)]
+
+mod book;
+mod completing;
+mod fault;
+mod solving;
+
+pub use book::{BookStop, OverflowPlace, RunBook};
+pub use fault::{InputFault, InputFile};
+pub use mk_core::{Journal, JournalEntry, Kind, Phase};
+pub use mk_ledger::OverflowStop;
+pub use solving::{RunStop, solve_alone};

@@ -1,0 +1,134 @@
+ghost use Rattle.std.specs.Prelude.{◌≡◌, ◌+◌, ◌<◌, ◌^◌, Some, All, length, pos};
+ghost use Rattle.mk_model.specs.Orders.{standard};
+ghost use Rattle.mk_model.specs.Tables.{rows_of};
+ghost use Rattle.mk_model.specs.Vectors.{weight};
+ghost use Rattle.mk_saturate.specs.Saturations.{NoneLeft, IsJob, IsNextJob};
+ghost use Rattle.mk_solve.specs.Books.{empty_book, settled_of};
+ghost use Rattle.mk_solve.specs.Solutions.{Solves};
+ghost use Rattle.mk_solve.specs.Steps.{TakesColumn, TakesLast, Reduces};
+
+use crate::book::{BookStop, OverflowPlace, RunBook};
+use crate::completing::complete;
+use mk_core::{Job, SaturatedBasis};
+use mk_files::Table;
+use mk_inter::{ReducedBasis, TailFault, reduce_tails};
+use mk_ledger::OverflowStop;
+use mk_model::NoMemory;
+use mk_move::Grading;
+use mk_saturate::Saturation;
+use std::alloc::Global;
+
+/// Why a lattice isn't solved: want of memory, or the stop that the book keeps.
+#[derive(Clone, Copy, Debug, PartialEq, Eq)]
+pub enum RunStop {
+    Memory,
+    Stopped,
+}
+
+impl From<NoMemory> for RunStop {
+    ghost use Rattle.std.specs.Prelude.{◌≡◌};
+    ghost use Rattle.mk_solve.specs.declared.solving.RunStop.TheVariants.{Memory};
+
+    ghost from_gives = { λ _ e. e ≡ Memory };
+
+    fn from(_e: NoMemory) -> RunStop {
+        RunStop::Memory
+    }
+}
+
+/// The reduced basis of the lattice of a table's rows, by one worker. The grading has as many columns as the table and product 0
+/// with each row, and at most so many pairs are settled. The book, which is empty, keeps each phase, the one that stopped too,
+/// and the reduced basis. `Stopped` exactly where the book has a stop. (Sturmfels, chapters 1 and 12)
+pub fn solve_alone(
+    alloc: Global,
+    lat: &Table,
+    grading: &Grading,
+    budget: u64,
+    book: &mut RunBook,
+) -> Result<ReducedBasis, RunStop>
+    requires book { book.old ≡ empty_book }
+    requires columns { length grading.now ≡ lat.now.columns }
+    requires graded { All (λ row. weight grading.now row ≡ pos 0) (rows_of lat.now) }
+    ensures { Solves lat.now grading.now budget result book.new }
+{
+    let mut saturation = Saturation::start(alloc, lat, grading)?;
+    while let Some(job) = saturation.next_job(alloc, budget - book.settled())? {
+        saturate_column(alloc, &mut saturation, job, book)?;
+    }
+    let job = saturation.final_job(alloc, budget - book.settled())?;
+    let saturated = finish(alloc, &saturation, job, book)?;
+    reduce(alloc, &saturated, book)
+}
+
+/// Saturates the least unsaturated column by the phase of its job, which the book keeps, the one that stopped too.
+fn saturate_column(
+    alloc: Global,
+    saturation: &mut Saturation,
+    job: Job,
+    book: &mut RunBook,
+) -> Result<(), RunStop>
+    requires next { IsNextJob saturation.old job.budget (Some job) }
+    requires room { length book.old.phases + 1 < 2 ^ 32 }
+    requires sum { settled_of book.old.phases + job.budget < 2 ^ 64 }
+    ensures { TakesColumn saturation.old job book.old result saturation.new book.new }
+{
+    let completed = complete(alloc, job, book)?;
+    saturation.accept(alloc, &completed)?;
+    book.push_phase(completed.into_phase())?;
+    Ok(())
+}
+
+/// The saturated basis, by the phase of the last job, which the book keeps, the one that stopped too.
+fn finish(
+    alloc: Global,
+    saturation: &Saturation,
+    job: Job,
+    book: &mut RunBook,
+) -> Result<SaturatedBasis, RunStop>
+    requires none_left { NoneLeft saturation.now.left }
+    requires last { IsJob saturation.now.basis (standard (length saturation.now.basis.grading)) job.budget job }
+    requires room { length book.old.phases + 1 < 2 ^ 32 }
+    requires sum { settled_of book.old.phases + job.budget < 2 ^ 64 }
+    ensures { TakesLast saturation.now.basis job book.old result book.new }
+{
+    let completed = complete(alloc, job, book)?;
+    let saturated = saturation.finish(alloc, &completed)?;
+    book.push_phase(completed.into_phase())?;
+    Ok(saturated)
+}
+
+/// The reduced basis, of which the book keeps a copy. Where an entry leaves the range the book keeps that stop.
+fn reduce(
+    alloc: Global,
+    saturated: &SaturatedBasis,
+    book: &mut RunBook,
+) -> Result<ReducedBasis, RunStop>
+    ensures { Reduces saturated.now book.old result book.new }
+{
+    match reduce_tails(alloc, saturated) {
+        Ok(reduced) => {
+            book.keep_reduced(reduced.try_copy()?);
+            Ok(reduced)
+        }
+        Err(TailFault::Memory) => Err(RunStop::Memory),
+        Err(
+            TailFault::Overflow {
+                index,
+                by,
+                operand,
+                at,
+            },
+        ) => {
+            let stop = OverflowStop {
+                i: index,
+                j: index,
+                by: Some(by),
+                operand: Some(operand),
+                at,
+            };
+            let place = OverflowPlace::Tail { index };
+            book.stop_with(BookStop::Overflow { place, stop });
+            Err(RunStop::Stopped)
+        }
+    }
+}

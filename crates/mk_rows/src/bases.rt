@@ -16,7 +16,7 @@ const LIMITS: Bounds = Bounds {
 };
 
 // The start of the lattice in a text of four columns, for the grading of all ones.
-pub(crate) fn begun(
+pub(crate) fn start_of_text(
     rt: &(impl Abort + AllocGlobal),
     text: &str,
     list: Priority,
@@ -35,7 +35,7 @@ pub(crate) fn twisted_cubic(rt: &(impl Abort + AllocGlobal)) -> Result<Basis, Fa
 {
     let list = Priority::first(rt.alloc(), 4, 1)?;
     assert_eq!(rt; list.as_slice(), [1, 3, 2, 0].as_slice());
-    let basis = begun(rt, "2 4\n1 -2 1 0\n0 -1 2 -1\n", list)?;
+    let basis = start_of_text(rt, "2 4\n1 -2 1 0\n0 -1 2 -1\n", list)?;
     assert_eq!(rt; basis.len(), 2);
     Ok(basis)
 }
@@ -50,7 +50,7 @@ pub(crate) fn standard_start(
 {
     let list = Priority::standard(rt.alloc(), 4)?;
     assert_eq!(rt; list.as_slice(), [3, 2, 1, 0].as_slice());
-    let basis = begun(rt, text, list)?;
+    let basis = start_of_text(rt, text, list)?;
     assert_eq!(rt; basis.len(), rows);
     Ok(basis)
 }

@@ -10,7 +10,7 @@ use std::alloc::AllocGlobal;
 use std::process::Abort;
 use std::test::Fail;
 
-// A finder with the leads of a basis.
+// A finder that has the leads of a basis, at the places of its moves.
 pub(crate) fn finder_of(rt: &(impl Abort + AllocGlobal), basis: &Basis) -> Result<PlainFinder, Fail>
     ensures { IfOk result (λ finder. finder ≡ leads_of basis.now.moves) }
 {
@@ -74,7 +74,7 @@ fn a_difference_leaves_the_range(rt: HostRuntime) -> Result<(), Fail> {
     Ok(())
 }
 
-// The place of a lead that divides the positive part of a row.
+// The place of a lead of the basis that divides the positive part of the move of a row, or none.
 fn found_for(
     rt: &(impl Abort + AllocGlobal),
     basis: &Basis,

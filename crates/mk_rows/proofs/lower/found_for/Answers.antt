@@ -1,6 +1,5 @@
 use Rattle.std.proofs.Common.{◌≡◌, length, subst, sym, All, List, ℤ, ℕ, Ok}
 use Rattle.mk_move.specs.Moves.{ReadsRow}
-use Rattle.mk_move.specs.MoveLists.{BelongsTo}
 use Rattle.mk_reduce.proofs.BasisMoves.{row_belongs, columns_of}
 use Rattle.mk_reduce.proofs.NextSteps.{lead_columns}
 use Rattle.mk_rows.proofs.lower.found_for.Goals as goal

@@ -1,5 +1,5 @@
-//! Whole runs over a folder in memory, and the calls below them on small lattices, each with what it must give. The tests are
-//! all there is.
+//! Whole runs over a folder in memory, and the calls below them on small lattices, each with what it must give. The tests
+//! are all there is.
 #![tactic(auto)]
 
 #[cfg(test)]

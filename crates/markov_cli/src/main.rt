@@ -16,7 +16,7 @@ fn main(rt: HostRuntime) -> ExitCode {
         Err(code) => return ExitCode::from(code),
     };
     let mut folder = RealFolder::new(rt.alloc(), &rt);
-    let mut book = RunBook::new();
+    let mut book = RunBook::new(rt.alloc());
     let status = run_alone(rt.alloc(), &words, &mut folder, &mut book);
     ExitCode::from(status.code())
 }

@@ -1,7 +1,10 @@
 ghost use Rattle.std.specs.Prelude.{◌≤◌};
 
 use mk_files::TableFault;
-use mk_run::{Channel, InputFault, InputFile, MemoryFolder, RunBook, Status, run_alone};
+use mk_run::{
+    BookStop, Channel, InputFault, InputFile, MemoryFolder, OverflowPlace, RunBook, Status,
+    run_alone,
+};
 use std::alloc::{AllocError, Global};
 use std::collections::BTreeMap;
 use std::process::Abort;
@@ -50,7 +53,7 @@ fn run(
     }
     let failing = Vec::from_slice(alloc, failing)?;
     let mut folder = MemoryFolder::new(alloc, map, failing, chunk);
-    let mut book = RunBook::new();
+    let mut book = RunBook::new(alloc);
     let status = run_alone(alloc, &word_list, &mut folder, &mut book);
     Ok(Ended {
         status,
@@ -74,6 +77,35 @@ fn assert_files(rt: &impl Abort, folder: &MemoryFolder, files: &[(&str, &[u8])],
     assert_eq!(rt; folder.len(), files.len(), "{case}");
 }
 
+// A run for `P` over this lattice writes this answer, in the place of an older one too, and leaves the other files.
+fn assert_answered(
+    rt: &(impl Abort + AllocGlobal),
+    lattice: &str,
+    answer: &str,
+) -> Result<(), Fail> {
+    let given = ("P.lat", lattice.as_bytes());
+    let other = ("Q.mar", b"other".as_slice());
+    let made = ("P.mar", answer.as_bytes());
+    let older = ("P.mar", OLDER.as_bytes());
+
+    let ended = run(rt.alloc(), &["P"], &[given, other], MANY, &[])?;
+    assert_ending(rt, &ended, Status::Done, "", lattice);
+    assert_files(rt, &ended.folder, &[given, other, made], lattice);
+    assert_unstopped(rt, &ended, lattice);
+
+    let ended = run(rt.alloc(), &["P"], &[given, other, older], MANY, &[])?;
+    assert_ending(rt, &ended, Status::Done, "", lattice);
+    assert_files(rt, &ended.folder, &[given, other, made], lattice);
+    assert_unstopped(rt, &ended, lattice);
+    Ok(())
+}
+
+// The book has neither a fault nor a stop.
+fn assert_unstopped(rt: &impl Abort, ended: &Ended, case: &str) {
+    assert_eq!(rt; ended.book.input(), None, "{case}");
+    assert!(rt; ended.book.stop().is_none(), "{case}");
+}
+
 #[test]
 fn answers(rt: HostRuntime) -> Result<(), Fail> {
     let rows = [
@@ -88,21 +120,56 @@ fn answers(rt: HostRuntime) -> Result<(), Fail> {
         ),
     ];
     for (lattice, answer) in rows {
-        let given = ("P.lat", lattice.as_bytes());
-        let other = ("Q.mar", b"other".as_slice());
-        let made = ("P.mar", answer.as_bytes());
-        let older = ("P.mar", OLDER.as_bytes());
-
-        let ended = run(rt.alloc(), &["P"], &[given, other], MANY, &[])?;
-        assert_ending(&rt, &ended, Status::Done, "", lattice);
-        assert_files(&rt, &ended.folder, &[given, other, made], lattice);
-        assert_eq!(rt; ended.book.input(), None, "{lattice}");
-
-        let ended = run(rt.alloc(), &["P"], &[given, other, older], MANY, &[])?;
-        assert_ending(&rt, &ended, Status::Done, "", lattice);
-        assert_files(&rt, &ended.folder, &[given, other, made], lattice);
-        assert_eq!(rt; ended.book.input(), None, "{lattice}");
+        assert_answered(&rt, lattice, answer)?;
     }
+    Ok(())
+}
+
+// More than one row that isn't zero: rows that are bases of their lattices or not, and moves beyond the rows.
+#[test]
+fn answers_for_many_rows(rt: HostRuntime) -> Result<(), Fail> {
+    let rows = [
+        (
+            "2 4\n1 -2 1 0\n0 1 -2 1\n",
+            "3 4\n0 -1 2 -1\n-1 1 1 -1\n-1 2 -1 0\n",
+        ),
+        ("2 3\n2 -2 0\n0 2 -2\n", "2 3\n0 2 -2\n2 0 -2\n"),
+        ("3 2\n1 -1\n2 -2\n1 -1\n", "1 2\n1 -1\n"),
+        ("2 3\n1 -1 0\n0 1 -1\n", "2 3\n0 1 -1\n1 0 -1\n"),
+    ];
+    for (lattice, answer) in rows {
+        assert_answered(&rt, lattice, answer)?;
+    }
+    Ok(())
+}
+
+// Tables of three rows and three columns with the same sums, the row `r` and column `c` of a table at `3 * r + c`: the
+// nine moves on two rows and two columns.
+#[test]
+fn answers_for_independence(rt: HostRuntime) -> Result<(), Fail> {
+    assert_answered(
+        &rt,
+        "4 9\n1 -1 0 -1 1 0 0 0 0\n0 1 -1 0 -1 1 0 0 0\n0 0 0 1 -1 0 -1 1 0\n0 0 0 0 1 -1 0 -1 1\n",
+        "9 9\n0 0 0 0 -1 1 0 1 -1\n0 -1 1 0 0 0 0 1 -1\n0 0 0 -1 0 1 1 0 -1\n0 0 0 -1 1 0 1 -1 0\n-1 0 1 0 0 0 1 0 -1\n-1 1 0 0 0 0 1 -1 0\n0 -1 1 0 1 -1 0 0 0\n-1 0 1 1 0 -1 0 0 0\n-1 1 0 1 -1 0 0 0 0\n",
+    )
+}
+
+// The first pair's difference has 2^63 + 2 in its second column.
+#[test]
+fn stops_where_a_number_leaves_its_range(rt: HostRuntime) -> Result<(), Fail> {
+    let lattice =
+        "2 4\n1 4611686018427387905 0 -4611686018427387906\n1 -4611686018427387905 4611686018427387905 -1\n";
+    let said = "markov: overflow in column 2: 4611686018427387905 - (1) * (-4611686018427387905)\n";
+    let files = [("P.lat", lattice.as_bytes()), ("P.mar", OLDER.as_bytes())];
+    let ended = run(rt.alloc(), &["P"], &files, MANY, &[])?;
+    assert_ending(&rt, &ended, Status::Overflow, said, "overflow");
+    assert_files(&rt, &ended.folder, &files, "overflow");
+    assert_eq!(rt; ended.book.input(), None);
+    let place = match ended.book.stop() {
+        Some(BookStop::Overflow { place, .. }) => Some(*place),
+        _ => None,
+    };
+    assert_eq!(rt; place, Some(OverflowPlace::Pair { phase: 0 }));
     Ok(())
 }
 
@@ -118,6 +185,7 @@ fn assert_refused(
     assert_ending(rt, &ended, Status::Input, said, case);
     assert_files(rt, &ended.folder, files, case);
     assert_eq!(rt; ended.book.input().copied(), Some(fault), "{case}");
+    assert!(rt; ended.book.stop().is_none(), "{case}");
     Ok(())
 }
 
@@ -125,7 +193,6 @@ fn assert_refused(
 fn refuses(rt: HostRuntime) -> Result<(), Fail> {
     let no_grading = "markov: P: no positive grading found\n";
     let no_table = "markov: P.lat: not a table\n";
-    let many_rows = "markov: P.lat: more than one nonzero row\n";
     let rows = [
         ("1 2\n1 1\n", no_grading, InputFault::NoGrading),
         ("1 2\n9223372036854775808 -1\n", no_table, NO_TABLE),
@@ -133,11 +200,6 @@ fn refuses(rt: HostRuntime) -> Result<(), Fail> {
         ("2 4\n1 -2 1 0\n0 1 -2\n", no_table, NO_TABLE),
         ("2 4\n1 -2 1 0\n0 1 -2 1\nx\n", no_table, NO_TABLE),
         ("1 513\n0\n", no_table, NO_TABLE),
-        (
-            "2 4\n1 -2 1 0\n0 1 -2 1\n",
-            many_rows,
-            InputFault::RowsNotBuilt,
-        ),
     ];
     let other = ("Q.mar", b"other".as_slice());
     let older = ("P.mar", OLDER.as_bytes());

@@ -2,24 +2,21 @@
 use Rattle.std.proofs.Common.{◌≡◌, ◌⊎◌, ℕ, ◌≤◌, List, [], ◌++◌, length, take, Option, Some, None, Vec, ◌+◌, ◌<◌, IsSomeAnd, Result, Ok, Err, IsErr, refl, ap, sym, subst, ◌∙◌, inl, inr, arith, append-nil}
 use Rattle.std.proofs.lemmas.Bool.{false≢true}
 use Rattle.std.proofs.lemmas.List.{take_all}
-use Rattle.mk_run.specs.Folders.{Desk, EndsWriting, said}
+use Rattle.mk_run.specs.Folders.{Desk, EndsWriting}
 use Rattle.mk_run.specs.Transfers.{SaysAll, Loads}
 use Rattle.std.specs.FinMap.{insert}
 use Rattle.std.specs.FinMap.{get}
 use Rattle.std.specs.declared.alloc.Global.{Global}
 use Rattle.mk_model.specs.Tables.{Grid, ReadsTable}
 use Rattle.mk_files.specs.declared.fault.TableFault.TheVariants.{Malformed, Memory as TableMemory}
-use Rattle.mk_run.specs.declared.book.InputFile.TheVariants.{Lat, Mat, Grade}
-use Rattle.mk_run.specs.declared.book.InputFault.TheVariants.{NoLattice, FileSize, Table, NoGrading, RowsNotBuilt}
-use Rattle.mk_run.specs.declared.fault.RunFault.TheVariants.{Memory, Failed, Input}
+use Rattle.mk_solve.specs.declared.fault.InputFile.TheVariants.{Lat, Mat, Grade}
+use Rattle.mk_solve.specs.declared.fault.InputFault.TheVariants.{NoLattice, FileSize, Table, NoGrading}
+use Rattle.mk_run.specs.declared.fault.RunFault.TheVariants.{Memory, Failed, Input, Stopped}
 use Rattle.mk_run.specs.declared.transfer.LoadFault.{LoadFault}
 use Rattle.mk_run.specs.declared.transfer.LoadFault.TheVariants.{Memory as LoadMemory, Failed as LoadFailed, FileSize as TooLong}
 use Rattle.mk_run.specs.Inputs.{lat_name, mar_name, file_limit, lattice_limits}
-use Rattle.mk_run.specs.Lines.{folder_line, IsLine}
-use Rattle.mk_run.specs.Runs.{SaysLine, Leaves, Ends}
-use Rattle.mk_run.specs.declared.status.Status.{Status}
-use Rattle.mk_run.specs.declared.status.Status.TheVariants.{Folder, Memory as OutOfMemory}
-use Rattle.mk_run.specs.Stages.{WritesAnswer, LeavesBegun, IsTableOf, ReadsLattice, load_refused}
+use Rattle.mk_run.specs.Runs.{SaysLine}
+use Rattle.mk_run.specs.Stages.{WritesAnswer, IsTableOf, ReadsLattice, load_refused}
 use Rattle.mk_run.specs.declared.fault.RunFault.{RunFault}
 use Rattle.mk_run.specs.declared.folder.DeskFault.{DeskFault}
 use Rattle.mk_run.specs.declared.folder.Channel.TheVariants.{Err as OnErrors}
@@ -100,7 +97,7 @@ module _ (project name : List ℕ) (same : name ≡ lat_name project) where
       go (Err (Input NoLattice)) h = absurd h
       go (Err (Input (FileSize file read))) h = absurd h
       go (Err (Input NoGrading)) h = absurd h
-      go (Err (Input RowsNotBuilt)) h = absurd h
+      go (Err Stopped) h = absurd h
       go (Err (Input (Table Mat fault))) h = absurd h
       go (Err (Input (Table Grade fault))) h = absurd h
       go (Err (Input (Table Lat TableMemory))) h = absurd h
@@ -115,30 +112,3 @@ module _ (project name : List ℕ) (same : name ≡ lat_name project) where
 
   pub lattice_absent : (x y : Desk) → Loads name file_limit (Ok None) x y → ReadsLattice project (Err (Input NoLattice)) x y
   lattice_absent x y l = (ap (get x.files) (sym same) ∙ l.0, l.1)
-
--- ---- endings
--- what was begun, seen from before the run, after a line was said
-pub left_and_said : (project line : List ℕ) (IsOne : List ℕ → Type 0) (rose : Type 0) → IsOne line → (x y z : Desk) → LeavesBegun project x y → SaysLine line rose y z → Leaves project IsOne x z
-left_and_said project line IsOne rose one x y z left said =
-    let name : z.made_name ≡ y.made_name = ap (λ (d : Desk). d.made_name) said.change in
-    let made : z.made ≡ y.made = ap (λ (d : Desk). d.made) said.change in
-    record {
-      files = ap (λ (d : Desk). d.files) said.change ∙ left.files;
-      out = ap (λ (d : Desk). d.out) said.change ∙ left.out;
-      line = line;
-      one = one;
-      count = said.count;
-      errors = ap (λ (d : Desk). d.errors) said.change ∙ ap (λ e. e ++ take said.count line) left.errors;
-      made = elim left.made [
-        | inl same ↦ inl (name ∙ same.0, made ∙ same.1)
-        | inr begun ↦ inr (record { grid = begun.grid; moves = begun.moves; answer = begun.answer; name = name ∙ begun.name; count = begun.count; made = made ∙ begun.made })
-      ];
-    }
-
--- a folder that failed, and the line said about it
-pub failed_ends : (project : List ℕ) (rose reason : Type 0) (status : Status) → (status ≡ Folder) ⊎ (status ≡ OutOfMemory) → (x y z : Desk) → LeavesBegun project x y → SaysLine folder_line reason y z → Ends project None rose status x z
-failed_ends project rose reason status which x y z left said =
-    elim which [
-      | inl e ↦ subst (λ (s : Status). Ends project None rose s x z) (sym e) (left_and_said project folder_line (λ line. line ≡ folder_line) reason refl x y z left said)
-      | inr e ↦ subst (λ (s : Status). Ends project None rose s x z) (sym e) (left_and_said project folder_line (IsLine project) reason (inl refl) x y z left said)
-    ]

@@ -1,9 +1,13 @@
--- The line of a move, one entry after another.
-use Rattle.std.proofs.Common.{◌≡◌, ℕ, zero, suc, ◌+◌, ◌<◌, List, [], ◌∷◌, ◌++◌, length, map, take, get_or, refl, ap, sym, ◌∙◌, arith, append_assoc, ℤ, pos}
+-- The line of a move, one entry after another, and the lines of moves.
+use Rattle.std.proofs.Common.{◌≡◌, ℕ, zero, suc, ◌+◌, ◌<◌, List, [], ◌∷◌, ◌++◌, length, map, take, get_or, refl, ap, sym, ◌∙◌, arith, append_assoc, ℤ, pos, Some, slice_get}
 use Rattle.std.specs.Fmt.{signed_decimal}
-use Rattle.std.specs.List.{join_with_byte}
-use Rattle.std.proofs.lemmas.List.{map_more, length-map, length-take-le}
+use Rattle.std.specs.List.{flat_map, join_with_byte}
+use Rattle.std.proofs.lemmas.List.{flat_map_more, map_more, length-map, length-take-le}
+use Rattle.mk_model.specs.Texts.{move_line}
+use Rattle.mk_move.specs.Moves.{Weighed}
+use Rattle.mk_move.specs.MoveLists.{vectors_of}
 use Rattle.mk_run.specs.Texts.{space_before}
+use Rattle.mk_run.proofs.Rows.{got_is}
 
 -- one piece more, behind others
 join_more : (c : ℕ) (pieces : List (List ℕ)) (x : List ℕ) → 0 < length pieces → join_with_byte c (pieces ++ x ∷ []) ≡ join_with_byte c pieces ++ (c ∷ x)
@@ -23,3 +27,12 @@ one_entry_more entries (suc column) h =
     let many = map signed_decimal (take (suc column) entries) in
     let some : 0 < length many = omega (arith, length-map (take (suc column) entries) signed_decimal, length-take-le (suc column) entries (omega arith)) in
     sym (ap (join_with_byte 32) (map_more signed_decimal entries (suc column) (pos 0) h) ∙ join_more 32 many (signed_decimal (get_or entries (suc column) (pos 0))) some)
+
+-- the line of the next move, behind those of the moves so far
+pub one_move_more : (front text : List ℕ) (moves : List Weighed) (place : ℕ) (m : Weighed) → place < length moves → slice_get moves place ≡ Some m → text ≡ front ++ flat_map move_line (vectors_of (take place moves))
+    → text ++ move_line m.entries ≡ front ++ flat_map move_line (vectors_of (take (place + 1) moves))
+one_move_more front text moves place m h here e =
+    ap (λ (t : List ℕ). t ++ move_line m.entries) e
+    ∙ flat_map_more move_line front (vectors_of (take place moves)) m.entries
+    ∙ ap (λ (ms : List (List ℤ)). front ++ flat_map move_line ms)
+    (ap (λ (x : Weighed). vectors_of (take place moves) ++ x.entries ∷ []) (sym (got_is moves place m m here)) ∙ sym (map_more (λ (x : Weighed). x.entries) moves place m h))

@@ -1,13 +1,13 @@
 -- What a project's lattice file may be.
-use Rattle.std.specs.Prelude.{◌≡◌, ◌≢◌, ℕ, ◌+◌, ◌<◌, ◌≤◌, List, ◌++◌, length, All, Any, Option, Some, None, IsSomeAnd, ℤ, pos, neg_ℤ, codes}
+use Rattle.std.specs.Prelude.{◌≡◌, ◌≢◌, ℕ, ◌+◌, ◌<◌, ◌≤◌, List, ◌++◌, length, Any, Option, Some, None, IsSomeAnd, ℤ, pos, neg_ℤ, codes}
 use Rattle.mk_model.specs.declared.TheConstants.{ENTRY_MAX}
 use Rattle.mk_model.specs.Vectors.{weight}
-use Rattle.mk_model.specs.Lattices.{ones, nonzero_rows}
+use Rattle.mk_model.specs.Lattices.{ones}
 use Rattle.mk_model.specs.Tables.{Grid, rows_of, Limits, ReadsTable}
 use Rattle.mk_files.specs.declared.fault.TableFault.TheVariants.{Memory, Malformed}
-use Rattle.mk_run.specs.declared.book.InputFile.TheVariants.{Lat, Mat, Grade}
-use Rattle.mk_run.specs.declared.book.InputFault.{InputFault}
-use Rattle.mk_run.specs.declared.book.InputFault.TheVariants.{NoLattice, FileSize, Table, NoGrading, RowsNotBuilt}
+use Rattle.mk_solve.specs.declared.fault.InputFile.TheVariants.{Lat, Mat, Grade}
+use Rattle.mk_solve.specs.declared.fault.InputFault.{InputFault}
+use Rattle.mk_solve.specs.declared.fault.InputFault.TheVariants.{NoLattice, FileSize, Table, NoGrading}
 
 -- the names of a project's files
 abbrev pub lat_name : List ℕ → List ℕ
@@ -41,13 +41,6 @@ pub record HasUngradedRow (file : Option (List ℕ)) : Type 0 where
   pub table : HasTable file grid
   pub row : Any (λ row. sum_of_row grid row ≢ pos 0) (rows_of grid)
 
--- each row has sum 0, and more than one isn't zero
-pub record HasMoreRows (file : Option (List ℕ)) : Type 0 where
-  pub grid : Grid
-  pub table : HasTable file grid
-  pub graded : All (λ row. sum_of_row grid row ≡ pos 0) (rows_of grid)
-  pub rows : 1 < length (nonzero_rows (rows_of grid))
-
 -- The cause of each fault of the input, by what the lattice file is. A fault that has no cause here never comes.
 abbrev pub IsFaulty : Option (List ℕ) → InputFault → Type 0
 IsFaulty file NoLattice = file ≡ None
@@ -60,4 +53,3 @@ IsFaulty file (Table Lat Memory) = ⊥
 IsFaulty file (Table Mat fault) = ⊥
 IsFaulty file (Table Grade fault) = ⊥
 IsFaulty file NoGrading = HasUngradedRow file
-IsFaulty file RowsNotBuilt = HasMoreRows file

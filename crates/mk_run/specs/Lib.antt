@@ -1,4 +1,3 @@
-pub mod Books
 pub mod Folders
 pub mod Inputs
 pub mod Lines

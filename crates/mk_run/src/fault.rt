@@ -1,17 +1,18 @@
 ghost use Rattle.std.specs.Prelude.{◌≡◌};
 ghost use Rattle.mk_run.specs.Stages.{load_refused};
 
-use crate::book::{InputFault, InputFile};
 use crate::folder::DeskFault;
 use crate::transfer::LoadFault;
+use mk_solve::{InputFault, InputFile, RunStop};
 use std::alloc::{AllocError, AllocFailed};
 
-/// Why a run has no answer.
+/// Why a run has no answer: `Stopped` where the book has a stop.
 #[derive(Clone, Copy, Debug, PartialEq, Eq)]
 pub(crate) enum RunFault {
     Memory,
     Failed,
     Input(InputFault),
+    Stopped,
 }
 
 impl From<AllocError> for RunFault {
@@ -46,6 +47,20 @@ impl From<DeskFault> for RunFault {
         match fault {
             DeskFault::Memory => RunFault::Memory,
             DeskFault::Failed => RunFault::Failed,
+        }
+    }
+}
+
+impl From<RunStop> for RunFault {
+    ghost use Rattle.std.specs.Prelude.{◌≡◌};
+    ghost use Rattle.mk_run.specs.Stages.{stop_refused};
+
+    ghost from_gives = { λ stop e. e ≡ stop_refused stop };
+
+    fn from(stop: RunStop) -> RunFault {
+        match stop {
+            RunStop::Memory => RunFault::Memory,
+            RunStop::Stopped => RunFault::Stopped,
         }
     }
 }

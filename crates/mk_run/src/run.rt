@@ -1,24 +1,24 @@
 //! A run for a project, from the words to the exit status.
 
-ghost use Rattle.std.specs.Prelude.{◌≡◌, ◌⊎◌, ◌≤◌, ℕ, List, map, false, None, OnOk, string_bytes};
+ghost use Rattle.std.specs.Prelude.{◌≡◌, ◌⊎◌, ◌≤◌, ℕ, List, map, false, OnOk, string_bytes};
+ghost use Rattle.mk_solve.specs.Books.{empty_book, settled_of};
 ghost use Rattle.mk_run.specs.Folders.{HasCause, Rose, WhereTold};
-ghost use Rattle.mk_run.specs.Lines.{input_line};
-ghost use Rattle.mk_run.specs.Runs.{Ends, EndsUnnamed, HasCauseOf, InputIsShown, SaysLine};
-ghost use Rattle.mk_run.specs.Stages.{ReadsLattice, IsTableOf, Answers, WritesAnswer, RunHasCause, IsShown, IsNotMaking};
+ghost use Rattle.mk_run.specs.Lines.{input_line, stop_line};
+ghost use Rattle.mk_run.specs.Runs.{default_budget, status_of, Ends, EndsUnnamed, HasCauseOf, InputIsShown, SaysLine};
+ghost use Rattle.mk_run.specs.Stages.{ReadsLattice, IsTableOf, Answers, WritesAnswer, RunHasCause, IsShown, IsBookOf, IsNotMaking};
 ghost use Rattle.mk_run.specs.Words.{NamesProject};
 
-use crate::book::{InputFault, InputFile, RunBook};
 use crate::fault::RunFault;
 use crate::folder::{Channel, DeskFault, Folder};
-use crate::lines::{self, input_line};
+use crate::lines::{self, input_line, stop_line};
 use crate::names::file_name;
-use crate::solve::solve;
+use crate::reduced::reduced_text;
 use crate::status::Status;
-use crate::text::move_text;
 use crate::transfer::{load, put_all, say_all};
 use crate::words::project_of;
 use mk_files::{Bounds, Table, TableFault, read_table};
 use mk_model::ENTRY_MAX;
+use mk_solve::{BookStop, InputFault, InputFile, RunBook};
 use std::alloc::Global;
 
 /// The most bytes of a file.
@@ -32,18 +32,18 @@ const LATTICE_BOUNDS: Bounds = Bounds {
     most: ENTRY_MAX,
 };
 
-/// Reads the lattice of a project and writes its minimal Markov basis, for a lattice of at most one nonzero row.
+/// Reads the lattice of a project and writes its reduced basis, which is a Markov basis of it.
 ///
-/// The words are those behind the program's name. `PROJECT.lat` is read, and `PROJECT.mar` made. The answer is the
-/// list of essential moves of the lattice with all ones as grading (Sturmfels, chapter 5), and the status says how the
-/// run ended. A run that is refused says one line on the error channel and leaves the files as they were.
+/// The words are those behind the program's name. `PROJECT.lat` is read, and `PROJECT.mar` made. The basis is the reduced
+/// one with all ones as grading (Sturmfels, chapters 5 and 12), the book keeps how it was found, and the status says how
+/// the run ended. A run that is refused says one line on the error channel and leaves the files as they were.
 pub fn run_alone<F: Folder>(
     alloc: Global,
     words: &[String],
     folder: &mut F,
     book: &mut RunBook,
 ) -> Status
-    requires book { book.old.input ≡ None }
+    requires book { book.old ≡ empty_book }
     requires making { (F.state folder.old).making ≡ false }
 
     // Usage where the words name no project, unless memory ran out; and no other status does without a project.
@@ -52,15 +52,17 @@ pub fn run_alone<F: Folder>(
     ensures named { result ≡ Status.Usage
         → (project : List ℕ) → NamesProject (map string_bytes words.now) project → ⊥ }
 
-    // Each status has its cause. The book has a fault exactly where the input was refused, unless memory ran out.
-    ensures cause { HasCauseOf book.new.input (F.state folder.old) (F.state folder.new) result }
+    // Each status has its cause. The book has a fault exactly where the input was refused, and a stop exactly where the
+    // run stopped, unless memory ran out. It has no more pairs than a run may settle.
+    ensures cause { HasCauseOf book.new.input book.new.stop (F.state folder.old) (F.state folder.new) result }
+    ensures settled { settled_of book.new.phases ≤ default_budget }
     ensures shown { (project : List ℕ) → NamesProject (map string_bytes words.now) project →
         InputIsShown book.new.input (F.state folder.new) result }
 
     // The headline, and what each other ending says and leaves, where the folder tells.
     ensures told { (project : List ℕ) → NamesProject (map string_bytes words.now) project →
         WhereTold (F.told folder.old) (F.told folder.new)
-        (Ends project book.new.input (Rose (F.state folder.old).faults (F.state folder.new).faults) result) }
+        (Ends project book.new (Rose (F.state folder.old).faults (F.state folder.new).faults) result) }
     ensures told_unnamed { ((project : List ℕ) → NamesProject (map string_bytes words.now) project → ⊥) →
         WhereTold (F.told folder.old) (F.told folder.new)
         (EndsUnnamed (Rose (F.state folder.old).faults (F.state folder.new).faults) result) }
@@ -68,34 +70,45 @@ pub fn run_alone<F: Folder>(
     let Some(project) = project_of(words) else {
         return refuse(folder, Status::Usage, lines::USAGE);
     };
-    match answer(alloc, folder, project) {
+    match answer(alloc, folder, project, book) {
         Ok(()) => Status::Done,
         Err(RunFault::Input(fault)) => {
             book.refuse(fault);
             refuse_input(alloc, folder, project, fault)
         }
+        Err(RunFault::Stopped) => match book.stop() {
+            Some(stop) => refuse_stop(alloc, folder, stop),
+            None => unreachable!(),
+        },
         Err(RunFault::Failed) => refuse(folder, Status::Folder, lines::FOLDER),
         Err(RunFault::Memory) => refuse(folder, Status::Memory, lines::MEMORY),
     }
 }
 
 /// The whole of a run for a project, but for saying why it is refused.
-fn answer<F: Folder>(alloc: Global, folder: &mut F, project: &str) -> Result<(), RunFault>
-    requires { (F.state folder.old).making ≡ false }
+fn answer<F: Folder>(
+    alloc: Global,
+    folder: &mut F,
+    project: &str,
+    book: &mut RunBook,
+) -> Result<(), RunFault>
+    requires book { book.old ≡ empty_book }
+    requires making { (F.state folder.old).making ≡ false }
+    ensures book { IsBookOf book.new result }
     ensures making { IsNotMaking (F.state folder.new) result }
     ensures cause { RunHasCause (F.state folder.old) (F.state folder.new) result }
     ensures shown { IsShown (F.state folder.new) result }
-    ensures told { WhereTold (F.told folder.old) (F.told folder.new) (Answers project.now result) }
+    ensures told { WhereTold (F.told folder.old) (F.told folder.new) (Answers project.now book.new result) }
 {
     let table = read_lattice(alloc, folder, project)?;
-    let moves = solve(alloc, &table)?;
-    let text = move_text(alloc, table.columns(), &moves)?;
+    let text = reduced_text(alloc, &table, book)?;
     Ok(write_answer(alloc, folder, project, &text)?)
 }
 
 /// Reads `PROJECT.lat` as a table.
 fn read_lattice<F: Folder>(alloc: Global, folder: &mut F, project: &str) -> Result<Table, RunFault>
     ensures making { (F.state folder.new).making ≡ (F.state folder.old).making }
+    ensures going { ¬ (result ≡ Err RunFault.Stopped) }
     ensures cause { RunHasCause (F.state folder.old) (F.state folder.new) result }
     ensures shown { IsShown (F.state folder.new) result }
     ensures told { WhereTold (F.told folder.old) (F.told folder.new) (ReadsLattice project.now result) }
@@ -177,6 +190,33 @@ fn refuse_input<F: Folder>(
 {
     match input_line(alloc, project, fault) {
         Ok(line) => refuse(folder, Status::Input, line.as_str()),
+        Err(_) => Status::Memory,
+    }
+}
+
+/// How a run ends that stopped.
+fn status_of(stop: &BookStop) -> Status
+    ensures { result ≡ status_of stop.now }
+{
+    match stop {
+        BookStop::Overflow { .. } => Status::Overflow,
+        BookStop::Budget { .. } => Status::Budget,
+        BookStop::BasisFull { .. } => Status::Full,
+    }
+}
+
+/// Says the line for why a run stopped.
+fn refuse_stop<F: Folder>(alloc: Global, folder: &mut F, stop: &BookStop) -> Status
+    ensures status { (result ≡ status_of stop.now) ⊎ (result ≡ Status.Memory) }
+    ensures found { (F.state folder.new).found ≡ (F.state folder.old).found }
+    ensures given { (F.state folder.new).given ≡ (F.state folder.old).given }
+    ensures making { (F.state folder.new).making ≡ (F.state folder.old).making }
+    ensures later { (F.state folder.old).faults ≤ (F.state folder.new).faults }
+    ensures told { WhereTold (F.told folder.old) (F.told folder.new)
+        (SaysLine (stop_line stop.now) (Rose (F.state folder.old).faults (F.state folder.new).faults ⊎ (result ≡ Status.Memory))) }
+{
+    match stop_line(alloc, stop) {
+        Ok(line) => refuse(folder, status_of(stop), line.as_str()),
         Err(_) => Status::Memory,
     }
 }

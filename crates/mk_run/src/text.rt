@@ -1,26 +1,27 @@
 //! The text of a list of moves.
 
-ghost use Rattle.std.specs.Prelude.{◌≡◌, ◌++◌, map, IfOk, OnOk};
+ghost use Rattle.std.specs.Prelude.{◌≡◌, ◌++◌, IfOk, OnOk};
 ghost use Rattle.std.specs.Fmt.{signed_decimal};
 ghost use Rattle.mk_run.specs.Texts.{space_before};
 ghost use Rattle.mk_model.specs.Texts.{header_line, move_line, move_text};
+ghost use Rattle.mk_move.specs.MoveLists.{vectors_of};
 
 use itoa::{Buffer, Integer};
-use mk_move::Move;
+use mk_move::{Basis, Move};
 use std::alloc::{AllocError, Global};
 
-/// The text of the moves, of so many columns each: a line with their number and that of the columns, and a line of
+/// The text of the moves of a basis, of so many columns each: a line with their number and that of the columns, and a line of
 /// entries for each.
-pub(crate) fn move_text(alloc: Global, columns: u32, moves: &[Move]) -> Result<Vec<u8>, AllocError>
-    ensures { IfOk result (λ text. text.items ≡ move_text columns (map (λ m. m.entries) moves.now)) }
+pub(crate) fn move_text(alloc: Global, columns: u32, basis: &Basis) -> Result<Vec<u8>, AllocError>
+    ensures { IfOk result (λ text. text.items ≡ move_text columns (vectors_of basis.now.moves)) }
 {
     let mut text = Vec::new(alloc);
-    push_number(&mut text, moves.len())?;
+    push_number(&mut text, basis.len())?;
     text.push(b' ')?;
     push_number(&mut text, columns)?;
     text.push(b'\n')?;
-    for next in moves {
-        push_move(&mut text, next)?;
+    for place in 0..basis.len() {
+        push_move(&mut text, basis.move_at(place))?;
     }
     Ok(text)
 }

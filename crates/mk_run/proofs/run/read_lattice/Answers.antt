@@ -1,6 +1,6 @@
 use Rattle.std.proofs.Common.{◌≡◌, ◌∙◌, ap, sym, subst, List, ℕ, Vec, Option, Ok, Err, Some, None, Global}
-use Rattle.mk_run.specs.declared.book.InputFile.TheVariants.{Lat}
-use Rattle.mk_run.specs.declared.book.InputFault.TheVariants.{NoLattice}
+use Rattle.mk_solve.specs.declared.fault.InputFile.TheVariants.{Lat}
+use Rattle.mk_solve.specs.declared.fault.InputFault.TheVariants.{NoLattice}
 use Rattle.mk_run.specs.declared.fault.RunFault.{RunFault}
 use Rattle.mk_run.specs.declared.fault.RunFault.TheVariants.{Input}
 use Rattle.mk_run.specs.Folders.{WhereTold}

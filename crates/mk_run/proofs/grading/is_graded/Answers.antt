@@ -5,7 +5,7 @@ use Rattle.std.proofs.lemmas.List.Elements.{All-more}
 use Rattle.mk_model.specs.Vectors.{weight}
 use Rattle.mk_model.specs.Tables.{rows_of}
 use Rattle.mk_run.proofs.Rows.{length-cut, got_is}
-use Rattle.mk_run.proofs.solve.is_graded.Goals as goal
+use Rattle.mk_run.proofs.grading.is_graded.Goals as goal
 
 abbrev HasNoWeight : List ℤ → List ℤ → Type 0
 HasNoWeight grading row = weight grading row ≡ pos 0

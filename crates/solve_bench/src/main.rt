@@ -67,6 +67,11 @@ fn all_ones(alloc: Global, lat: &Table) -> Option<Grading>
 /// Says how many phases, pairs and moves there are.
 fn say(rt: &HostRuntime, book: &RunBook, reduced: &ReducedBasis) -> io::Result<ExitCode> {
     let moves = reduced.basis().len();
-    println!(rt; "phases {} pairs {} moves {}", book.phase_count(), book.settled(), moves)?;
+    println!(rt;
+        "phases {} pairs {} moves {}",
+        book.phase_count(),
+        book.settled(),
+        moves
+    )?;
     Ok(ExitCode::SUCCESS)
 }

@@ -18,7 +18,10 @@ mod words;
 
 pub use folder::{Channel, DeskFault, Folder, Found};
 pub use memory_folder::MemoryFolder;
-pub use mk_solve::{BookStop, InputFault, InputFile, OverflowPlace, OverflowStop, Phase, RunBook};
+pub use mk_solve::{
+    BookStop, InputFault, InputFile, Journal, JournalEntry, Kind, OverflowPlace, OverflowStop,
+    Phase, RunBook,
+};
 pub use real_folder::RealFolder;
 pub use run::run_alone;
 pub use status::Status;

@@ -14,6 +14,7 @@ failed=0
 
 usage='usage: markov [--workers N] [--budget N] PROJECT or markov [--workers N] [--budget N] --model RxC[xD]'
 no_table='markov: P.lat: not a table'
+overflow='markov: overflow in column 2: 4611686018427387905 - (1) * (-4611686018427387905)'
 
 # An empty folder for the next case.
 fresh() {
@@ -117,6 +118,10 @@ answers '1 3\n0 0 0\n' '0 3\n'
 answers '0 0\n' '0 0\n'
 answers '1 2\n2 -2\n' '1 2\n2 -2\n'
 answers '1 8\n-1 1 1 -1 1 -1 -1 1\n' '1 8\n1 -1 -1 1 -1 1 1 -1\n'
+answers '2 4\n1 -2 1 0\n0 1 -2 1\n' '3 4\n0 -1 2 -1\n-1 1 1 -1\n-1 2 -1 0\n'
+answers '2 3\n1 -1 0\n0 1 -1\n' '2 3\n0 1 -1\n1 0 -1\n'
+answers '2 3\n2 -2 0\n0 2 -2\n' '2 3\n0 2 -2\n2 0 -2\n'
+answers '3 2\n1 -1\n2 -2\n1 -1\n' '1 2\n1 -1\n'
 answers '1 2\n9223372036854775807 -9223372036854775807\n' '1 2\n9223372036854775807 -9223372036854775807\n'
 
 refuses '1 2\n1 1\n' 'markov: P: no positive grading found'
@@ -125,7 +130,12 @@ refuses '1 2\n1 -9223372036854775808\n' "$no_table"
 refuses '2 4\n1 -2 1 0\n0 1 -2\n' "$no_table"
 refuses '2 4\n1 -2 1 0\n0 1 -2 1\nx\n' "$no_table"
 refuses '1 513\n0\n' "$no_table"
-refuses '2 4\n1 -2 1 0\n0 1 -2 1\n' 'markov: P.lat: more than one nonzero row'
+
+# A move that is too large: no file is made.
+fresh
+given P.lat '2 4\n1 4611686018427387905 0 -4611686018427387906\n1 -4611686018427387905 4611686018427387905 -1\n'
+given P.mar '7 7\nan older answer\n'
+ends 'an entry leaves its range' 4 "$overflow" P
 
 fresh
 ends 'no P.lat' 2 'markov: P.lat: not there' P

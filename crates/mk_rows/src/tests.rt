@@ -143,6 +143,32 @@ fn answers_for_many_rows(rt: HostRuntime) -> Result<(), Fail> {
     Ok(())
 }
 
+// Reduced bases that were found by their definition, from lists of whole fibres: a vector that isn't the least of its fibre,
+// while all its proper divisors are, minus the least vector of its fibre.
+#[test]
+fn answers_as_lists_of_fibres_do(rt: HostRuntime) -> Result<(), Fail> {
+    let rows = [
+        ("1 3\n1 2 -3\n", "1 3\n1 2 -3\n"),
+        ("2 3\n3 -1 -2\n1 1 -2\n", "3 3\n1 1 -2\n2 -2 0\n-1 3 -2\n"),
+        (
+            "3 4\n1 1 -1 -1\n1 -1 1 -1\n1 -1 -1 1\n",
+            "6 4\n0 0 2 -2\n-1 1 1 -1\n1 -1 1 -1\n0 2 0 -2\n1 1 -1 -1\n2 0 0 -2\n",
+        ),
+        (
+            "2 4\n2 1 -3 0\n0 1 1 -2\n",
+            "3 4\n0 1 1 -2\n2 1 -3 0\n-2 0 4 -2\n",
+        ),
+        (
+            "2 4\n2 -3 1 0\n0 2 -3 1\n",
+            "3 4\n0 -2 3 -1\n-2 1 2 -1\n-2 3 -1 0\n",
+        ),
+    ];
+    for (lattice, answer) in rows {
+        assert_answered(&rt, lattice, answer)?;
+    }
+    Ok(())
+}
+
 // Tables of three rows and three columns with the same sums, the row `r` and column `c` of a table at `3 * r + c`: the
 // nine moves on two rows and two columns.
 #[test]

@@ -1,14 +1,13 @@
-ghost use Rattle.std.specs.Prelude.{◌≡◌, All, length, pos, IfOk};
+ghost use Rattle.std.specs.Prelude.{◌≡◌, ◌≤◌, All, length, pos, IfOk};
 ghost use Rattle.mk_model.specs.Tables.{rows_of};
 ghost use Rattle.mk_model.specs.Vectors.{weight};
 
-use mk_core::drop_redundant;
+use crate::bases::assert_moves;
+use mk_core::{Job, drop_redundant};
 use mk_files::{Bounds, Table, read_table};
-use mk_inter::ReducedBasis;
 use mk_model::ENTRY_MAX;
 use mk_move::{Basis, Grading, Move, Priority};
-use mk_saturate::start_basis;
-use mk_solve::{RunBook, solve_alone};
+use mk_saturate::{Saturation, start_basis};
 use std::alloc::AllocGlobal;
 use std::process::Abort;
 use std::test::Fail;
@@ -47,5 +46,68 @@ fn redundant_moves_are_dropped(rt: HostRuntime) -> Result<(), Fail> {
     let kept = drop_redundant(rt.alloc(), &basis)?;
     assert_eq!(rt; kept.len(), 1);
     assert_entries(&rt, kept.move_at(0), &[1, -1]);
+    Ok(())
+}
+
+// A table, and a grading of as many columns for which each row has product 0.
+#[derive(Debug, Drop)]
+struct Lattice {
+    table: Table,
+    grading: Grading,
+}
+
+// The lattice in a text, graded by the weights, which are as many as its columns.
+fn graded_lattice(
+    rt: &(impl Abort + AllocGlobal),
+    text: &str,
+    weights: &[i64],
+) -> Result<Lattice, Fail>
+    requires { length weights.now ≤ 512 }
+    ensures columns { IfOk result (λ lattice. length lattice.grading ≡ lattice.table.columns) }
+    ensures graded { IfOk result (λ lattice. All (λ row. weight lattice.grading row ≡ pos 0) (rows_of lattice.table)) }
+{
+    let table = read_table(rt.alloc(), text.as_bytes(), &LIMITS)?;
+    let grading = Grading::new(rt.alloc(), weights)?;
+    assert_eq!(rt; table.columns(), grading.columns());
+    let list = Priority::standard(rt.alloc(), table.columns())?;
+    let copy = grading.try_copy()?;
+    start_basis(rt.alloc(), &table, copy, list)?;
+    Ok(Lattice { table, grading })
+}
+
+// The saturation that the rows of the twisted cubic begin, for the grading of all ones.
+fn cubic_saturation(rt: &(impl Abort + AllocGlobal)) -> Result<Saturation, Fail>
+    ensures { IfOk result (λ saturation. length saturation.left ≡ 4) }
+{
+    let lattice = graded_lattice(rt, "2 4\n1 -2 1 0\n0 1 -2 1\n", &[1, 1, 1, 1])?;
+    assert_eq!(rt; lattice.table.columns(), 4);
+    Ok(Saturation::start(rt.alloc(), &lattice.table, &lattice.grading)?)
+}
+
+// The columns from one on are left, of four, and no other.
+fn assert_left_from(rt: &impl Abort, saturation: &Saturation, first: u32)
+    requires { length saturation.now.left ≡ 4 }
+{
+    for column in 0..4 {
+        assert_eq!(rt; saturation.is_left(column), first <= column, "column {column}");
+    }
+}
+
+// The job has this list, these moves and this budget.
+fn assert_job(rt: &impl Abort, job: &Job, list: &[u32], moves: &[[i128; 4]], budget: u64) {
+    assert_eq!(rt; job.start.priority().as_slice(), list);
+    assert_moves(rt, &job.start, moves);
+    assert_eq!(rt; job.budget, budget);
+}
+
+#[test]
+fn every_column_is_left_at_first(rt: HostRuntime) -> Result<(), Fail> {
+    let saturation = cubic_saturation(&rt)?;
+    assert_left_from(&rt, &saturation, 0);
+    let Some(job) = saturation.next_job(rt.alloc(), 9)? else {
+        panic!(rt; "no column is left");
+    };
+    let moves = [[-1, 2, -1, 0], [0, -1, 2, -1]];
+    assert_job(&rt, &job, &[0, 3, 2, 1], &moves, 9);
     Ok(())
 }

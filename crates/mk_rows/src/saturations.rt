@@ -1,13 +1,14 @@
-ghost use Rattle.std.specs.Prelude.{◌≡◌, ◌≤◌, All, length, pos, IfOk};
+ghost use Rattle.std.specs.Prelude.{◌≡◌, ◌≤◌, All, length, pos, IfOk, OnOk};
 ghost use Rattle.mk_model.specs.Tables.{rows_of};
 ghost use Rattle.mk_model.specs.Vectors.{weight};
 
 use crate::bases::assert_moves;
-use mk_core::{Job, drop_redundant};
+use mk_core::{Job, complete_alone, drop_redundant};
 use mk_files::{Bounds, Table, read_table};
 use mk_model::ENTRY_MAX;
 use mk_move::{Basis, Grading, Move, Priority};
 use mk_saturate::{Saturation, start_basis};
+use mk_solve::{RunBook, solve_alone};
 use std::alloc::AllocGlobal;
 use std::process::Abort;
 use std::test::Fail;
@@ -89,7 +90,11 @@ fn assert_left_from(rt: &impl Abort, saturation: &Saturation, first: u32)
     requires { length saturation.now.left ≡ 4 }
 {
     for column in 0..4 {
-        assert_eq!(rt; saturation.is_left(column), first <= column, "column {column}");
+        assert_eq!(rt;
+            saturation.is_left(column),
+            first <= column,
+            "column {column}"
+        );
     }
 }
 
@@ -109,5 +114,72 @@ fn every_column_is_left_at_first(rt: HostRuntime) -> Result<(), Fail> {
     };
     let moves = [[-1, 2, -1, 0], [0, -1, 2, -1]];
     assert_job(&rt, &job, &[0, 3, 2, 1], &moves, 9);
+    Ok(())
+}
+
+// Saturates the least column that is left, by what completes its job.
+fn saturate_next(
+    rt: &(impl Abort + AllocGlobal),
+    saturation: &mut Saturation,
+    budget: u64,
+) -> Result<(), Fail>
+    ensures { OnOk result (length saturation.new.left ≡ length saturation.old.left) }
+{
+    let Some(job) = saturation.next_job(rt.alloc(), budget)? else {
+        panic!(rt; "no column is left");
+    };
+    let completed = complete_alone(rt.alloc(), job)?;
+    saturation.accept(rt.alloc(), &completed)?;
+    Ok(())
+}
+
+#[test]
+fn the_least_column_is_saturated(rt: HostRuntime) -> Result<(), Fail> {
+    let mut saturation = cubic_saturation(&rt)?;
+    saturate_next(&rt, &mut saturation, 9)?;
+    assert_left_from(&rt, &saturation, 1);
+    let Some(job) = saturation.next_job(rt.alloc(), 8)? else {
+        panic!(rt; "no column is left");
+    };
+    let moves = [[1, -2, 1, 0], [0, -1, 2, -1]];
+    assert_job(&rt, &job, &[1, 3, 2, 0], &moves, 8);
+    Ok(())
+}
+
+// The move of a place has these entries and this weight.
+fn assert_weighed(rt: &impl Abort, basis: &Basis, place: u32, entries: &[i128], weight: i128) {
+    assert!(rt; place < basis.len());
+    let m = basis.move_at(place);
+    assert_entries(rt, m, entries);
+    assert_eq!(rt; m.weight(), weight);
+}
+
+#[test]
+fn tails_are_reduced(rt: HostRuntime) -> Result<(), Fail> {
+    let lattice = graded_lattice(&rt, "2 3\n2 -1 0\n1 1 -1\n", &[1, 2, 3])?;
+    let mut book = RunBook::new(rt.alloc());
+    let reduced = solve_alone(
+        rt.alloc(),
+        &lattice.table,
+        &lattice.grading,
+        1000,
+        &mut book,
+    )?;
+    let basis = reduced.basis();
+    assert_eq!(rt; basis.len(), 3);
+    assert_weighed(&rt, basis, 0, &[2, -1, 0], 2);
+    assert_weighed(&rt, basis, 1, &[1, 1, -1], 3);
+    assert_weighed(&rt, basis, 2, &[-1, 2, -1], 4);
+    Ok(())
+}
+
+#[test]
+fn no_rows_give_an_empty_basis(rt: HostRuntime) -> Result<(), Fail> {
+    let lattice = graded_lattice(&rt, "0 4\n", &[1, 1, 1, 1])?;
+    let mut book = RunBook::new(rt.alloc());
+    let reduced = solve_alone(rt.alloc(), &lattice.table, &lattice.grading, 0, &mut book)?;
+    assert_eq!(rt; reduced.basis().len(), 0);
+    assert_eq!(rt; book.phase_count(), 5);
+    assert_eq!(rt; book.settled(), 0);
     Ok(())
 }

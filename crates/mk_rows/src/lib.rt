@@ -9,4 +9,6 @@ mod completions;
 #[cfg(test)]
 mod lower;
 #[cfg(test)]
+mod saturations;
+#[cfg(test)]
 mod tests;

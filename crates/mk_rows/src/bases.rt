@@ -8,7 +8,7 @@ use std::alloc::AllocGlobal;
 use std::process::Abort;
 use std::test::Fail;
 
-const LIMITS: Bounds = Bounds {
+pub(crate) const LIMITS: Bounds = Bounds {
     rows: 4096,
     columns: 512,
     least: -ENTRY_MAX,

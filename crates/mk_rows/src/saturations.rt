@@ -2,23 +2,15 @@ ghost use Rattle.std.specs.Prelude.{◌≡◌, ◌≤◌, All, length, pos, IfOk
 ghost use Rattle.mk_model.specs.Tables.{rows_of};
 ghost use Rattle.mk_model.specs.Vectors.{weight};
 
-use crate::bases::assert_moves;
+use crate::bases::{LIMITS, assert_moves};
 use mk_core::{Job, complete_alone, drop_redundant};
-use mk_files::{Bounds, Table, read_table};
-use mk_model::ENTRY_MAX;
+use mk_files::{Table, read_table};
 use mk_move::{Basis, Grading, Move, Priority};
 use mk_saturate::{Saturation, start_basis};
 use mk_solve::{RunBook, solve_alone};
 use std::alloc::AllocGlobal;
 use std::process::Abort;
 use std::test::Fail;
-
-const LIMITS: Bounds = Bounds {
-    rows: 4096,
-    columns: 512,
-    least: -ENTRY_MAX,
-    most: ENTRY_MAX,
-};
 
 // The move has these entries.
 fn assert_entries(rt: &impl Abort, m: &Move, entries: &[i128]) {

@@ -1,0 +1,16 @@
+pub mod Peaks
+pub mod LowerMoves
+pub mod LinkLaws
+pub mod LeastLeads
+pub mod WeightOrder
+pub mod LcmWeights
+pub mod OverlapLists
+pub mod LinkChains
+pub mod PairsOfPlaces
+pub mod LinkEnds
+pub mod WideNumbers
+pub mod RunsOfWeight
+pub mod LowerFronts
+pub mod ChosenMoves
+pub mod GatheredLinks
+pub mod StageSteps

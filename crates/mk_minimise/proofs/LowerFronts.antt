@@ -1,0 +1,180 @@
+-- The first moves of a reduced basis, up to a place at which the weight rises: they are the lower moves of that weight.
+use Rattle.std.proofs.Common.{◌≡◌, ◌⊎◌, inl, inr, ℕ, ◌+◌, ◌≤◌, ◌<◌, ◌^◌, List, [], ◌∷◌, ◌++◌, length, take, drop, get_or, slice_get, Some, ℤ, ◌≤ℤ◌, ◌<ℤ◌, All, Contains, arith, ap, refl, sym, ◌∙◌, subst, ⊎_elim}
+use Rattle.std.proofs.lemmas.Bool.{cases_lt}
+use Rattle.std.proofs.lemmas.Int.{ints}
+use Rattle.std.proofs.lemmas.List.{get_or_default, get_or-take, length-take, take-map, take_more, length-map, map-append}
+use Rattle.std.proofs.lemmas.List.Elements.{All-take, Contains-get_or}
+use Rattle.std.proofs.lemmas.Option.{get_or_from_slice_get, slice_get_within}
+use Rattle.mk_model.specs.CoreStates.{move_at, IsPairOf, pair_of}
+use Rattle.mk_model.specs.Lattices.{IsGrading}
+use Rattle.mk_model.specs.Orders.{lead, ComesBefore}
+use Rattle.mk_model.specs.Reductions.{lcm, Divides}
+use Rattle.mk_model.specs.ReducedBases.{IsReducedMove}
+use Rattle.mk_model.specs.Vectors.{weight, IsPoint}
+use Rattle.mk_model.proofs.OrderLaws.{ComesBefore-irreflexive}
+use Rattle.mk_model.proofs.MoveLaws.{IsMove-lead}
+use Rattle.mk_model.proofs.Divisors.{IsPoint-lcm, Divides-lcm_first, Divides-lcm_second}
+use Rattle.mk_model.proofs.DivisorWeights.{divisor_cases}
+use Rattle.mk_model.proofs.ReducedLaws.{reduced_ends, member_reduced, member_move}
+use Rattle.mk_move.specs.Moves.{Weighed}
+use Rattle.mk_move.specs.MoveLists.{MoveList, BelongsTo, IsBasis, vectors_of}
+use Rattle.mk_reduce.specs.Leads.{leads_of}
+use Rattle.mk_reduce.proofs.Beginnings.{length-vectors_of}
+use Rattle.mk_inter.specs.Tails.{IsReducedList}
+use Rattle.mk_inter.proofs.Bases.{grading_of}
+use Rattle.mk_inter.proofs.FoundLeads.{leads_columns, length-leads_of}
+use Rattle.mk_inter.proofs.LeastTails.{reduced_once}
+use Rattle.mk_minimise.specs.declared.overlaps.Overlap.{Overlap}
+use Rattle.mk_minimise.specs.Links.{AreLower}
+use Rattle.mk_minimise.specs.Overlaps.{lcm_at, IsOverlap}
+use Rattle.mk_minimise.specs.Stages.{weight_at, IsCut, IsFront}
+use Rattle.mk_minimise.proofs.LowerMoves.{lead_not_least}
+use Rattle.mk_minimise.proofs.RunsOfWeight.{weights_rise}
+
+-- ---- the moves put one after another
+pub record IsRaising (basis : MoveList) (place : ℕ) (moves : MoveList) (leads : List (List ℤ)) : Type 0 where
+  pub moves_are : moves.moves ≡ take place basis.moves
+  pub priority : moves.priority ≡ basis.priority
+  pub grading : moves.grading ≡ basis.grading
+  pub leads_are : leads ≡ leads_of moves.moves
+
+pub raising_begins : (basis lower : MoveList) (leads : List (List ℤ)) → IsFront basis lower → leads ≡ leads_of lower.moves → IsRaising basis (length lower.moves) lower leads
+raising_begins basis lower leads front e = record { moves_are = front.moves; priority = front.priority; grading = front.grading; leads_are = e }
+
+module _ (basis : MoveList) (place : ℕ) (moves : MoveList) (leads : List (List ℤ)) (raising : IsRaising basis place moves leads) where
+  pub raising_more : (m : Weighed) (after : MoveList) (leads_after : List (List ℤ)) → slice_get basis.moves place ≡ Some m → after ≡ record moves { moves = moves.moves ++ m ∷ [] } → leads_after ≡ leads ++ lead m.entries ∷ [] →
+      IsRaising basis (place + 1) after leads_after
+  raising_more m after leads_after at e f = record {
+    moves_are = now ∙ ap (λ xs. xs ++ m ∷ []) raising.moves_are ∙ sym more;
+    priority = ap (λ (b : MoveList). b.priority) e ∙ raising.priority;
+    grading = ap (λ (b : MoveList). b.grading) e ∙ raising.grading;
+    leads_are = f ∙ ap (λ xs. xs ++ lead m.entries ∷ []) raising.leads_are ∙ sym (map-append (λ (m : Weighed). lead m.entries) moves.moves (m ∷ [])) ∙ ap leads_of (sym now);
+  }
+    where
+      now : after.moves ≡ moves.moves ++ m ∷ []
+      now = ap (λ (b : MoveList). b.moves) e
+
+      more : take (place + 1) basis.moves ≡ take place basis.moves ++ m ∷ []
+      more = take_more basis.moves place m (slice_get_within basis.moves place m at) ∙ ap (λ x. take place basis.moves ++ x ∷ []) (get_or_from_slice_get basis.moves place m m at)
+
+  pub raising_columns : IsBasis basis → (m : Weighed) → BelongsTo basis.priority basis.grading m → All (λ x. length x ≡ length m.entries) leads
+  raising_columns h m b =
+      subst (All (λ x. length x ≡ length m.entries)) (sym (raising.leads_are ∙ ap leads_of raising.moves_are))
+      (leads_columns basis.priority basis.grading (take place basis.moves) m (All-take (BelongsTo basis.priority basis.grading) place basis.moves h.moves) b.columns)
+
+  pub raising_room : IsBasis basis → place < length basis.moves → length leads + 1 < 2 ^ 32
+  raising_room h l =
+      omega (arith, h.few, l, ap length raising.leads_are, length-leads_of moves.moves, ap length raising.moves_are, length-take place basis.moves)
+
+  pub raising_count : place ≤ length basis.moves → length moves.moves ≡ place
+  raising_count l = omega (arith, l, ap length raising.moves_are, length-take place basis.moves)
+
+  pub raising_ends : place ≤ length basis.moves → IsCut basis place → IsFront basis moves
+  raising_ends l cut =
+      let count = raising_count l in
+      record {
+        moves = raising.moves_are ∙ ap (λ k. take k basis.moves) (sym count);
+        priority = raising.priority;
+        grading = raising.grading;
+        cut = subst (IsCut basis) (sym count) cut;
+      }
+
+-- ---- the lower moves
+module _ (basis : MoveList) (h : IsReducedList basis) where
+  pub list_grading : IsGrading (length basis.grading) (vectors_of basis.moves) basis.grading
+  list_grading = grading_of basis.priority basis.grading basis.moves h.kept.grading h.kept.columns h.kept.moves
+
+  pub member_at : (k : ℕ) → k < length basis.moves → Contains (vectors_of basis.moves) (move_at (vectors_of basis.moves) k)
+  member_at k l = Contains-get_or (vectors_of basis.moves) k [] (omega (arith, l, length-vectors_of basis.moves))
+
+  module _ (lower : MoveList) (front : IsFront basis lower) (more : length lower.moves < length basis.moves) where
+    abbrev count : ℕ
+    count = length lower.moves
+
+    abbrev rows : List (List ℤ)
+    rows = vectors_of basis.moves
+
+    pub vectors_are : vectors_of lower.moves ≡ take count rows
+    vectors_are = ap vectors_of front.moves ∙ sym (take-map (λ (m : Weighed). m.entries) count basis.moves)
+
+    pub lower_at : (k : ℕ) → k < count → move_at (vectors_of lower.moves) k ≡ move_at rows k
+    lower_at k l = ap (λ xs. get_or xs k []) vectors_are ∙ get_or-take count rows k [] l
+
+    pub lower_has : (k : ℕ) → k < count → Contains (vectors_of lower.moves) (move_at rows k)
+    lower_has k l = subst (Contains (vectors_of lower.moves)) (lower_at k l) (Contains-get_or (vectors_of lower.moves) k [] (omega (arith, l, length-vectors_of lower.moves)))
+
+    -- the place of a lower move
+    pub lower_place : (m : List ℤ) → Contains (vectors_of lower.moves) m → (k : ℕ) × (k < count) × (move_at rows k ≡ m)
+    lower_place m (k, l, e) =
+        let within : k < count = omega (arith, l, length-vectors_of lower.moves) in
+        (k, within, sym (lower_at k within) ∙ get_or_default (vectors_of lower.moves) k [] m l ∙ e)
+
+    pub lower_part : AreLower basis.grading rows (weight_at basis count) (vectors_of lower.moves)
+    lower_part = record {
+      member = λ m c. let (k, l, e) = lower_place m c in subst (Contains rows) e (member_at k (omega (arith, l, more)));
+      lighter = λ m c. let (k, l, e) = lower_place m c in omega (arith, ints, front.cut k count l (omega arith) more, ap (λ x. weight basis.grading (lead x)) e);
+      every = every;
+    }
+      where
+        every : (m : List ℤ) → Contains rows m → weight basis.grading (lead m) <ℤ weight_at basis count → Contains (vectors_of lower.moves) m
+        every m (k, l, e) light = go (cases_lt k count)
+          where
+            same : move_at rows k ≡ m
+            same = get_or_default rows k [] m l ∙ e
+
+            go : (k < count) ⊎ (count ≤ k) → Contains (vectors_of lower.moves) m
+            go (inl s) = subst (Contains (vectors_of lower.moves)) same (lower_has k s)
+            go (inr s) = absurd (omega (arith, ints, light, weights_rise basis h count k s (omega (arith, l, length-vectors_of basis.moves)), ap (λ x. weight basis.grading (lead x)) same))
+
+    -- ---- pairs that overlap with this weight are of lower moves
+    module _ (pair : Overlap) (o : IsOverlap basis.grading rows pair) (weighs : pair.weight ≡ weight_at basis count) where
+      abbrev a : List ℤ
+      a = move_at rows pair.first
+
+      abbrev b : List ℤ
+      b = move_at rows pair.second
+
+      inside : pair.second < length basis.moves
+      inside = omega (arith, o.within, length-vectors_of basis.moves)
+
+      of_a : Contains rows a
+      of_a = member_at pair.first (omega (arith, o.ordered, inside))
+
+      of_b : Contains rows b
+      of_b = member_at pair.second inside
+
+      first_point : IsPoint (length basis.grading) (lead a)
+      first_point = IsMove-lead list_grading (member_move list_grading h.reduced a of_a)
+
+      second_point : IsPoint (length basis.grading) (lead b)
+      second_point = IsMove-lead list_grading (member_move list_grading h.reduced b of_b)
+
+      pub pair_weighs : weight basis.grading (lcm (lead a) (lead b)) ≡ weight_at basis count
+      pair_weighs = sym (ap (λ (p : Overlap). p.weight) o.value) ∙ weighs
+
+      refuse : count ≤ pair.second → ⊥
+      refuse l = not_whole whole
+        where
+          whole : lead b ≡ lcm (lead a) (lead b)
+          whole =
+              ⊎_elim (λ s. absurd (omega (arith, ints, s, pair_weighs, weights_rise basis h count pair.second l inside))) (λ e. e)
+              (divisor_cases list_grading (lcm (lead a) (lead b)) (lead b) (IsPoint-lcm first_point second_point) second_point (Divides-lcm_second (lead a) (lead b)))
+
+          apart : lead a ≡ lead b → ⊥
+          apart e =
+              let same : a ≡ b = reduced_once list_grading a b (member_reduced list_grading h.reduced a of_a) (member_reduced list_grading h.reduced b of_b) e in
+              ComesBefore-irreflexive (length basis.grading) basis.grading b
+              (subst (λ x. ComesBefore (length basis.grading) basis.grading x b) same (h.reduced.ascending pair.first pair.second [] o.ordered o.within))
+
+          not_whole : lead b ≡ lcm (lead a) (lead b) → ⊥
+          not_whole e =
+              let d : Divides (lead a) (lead b) = subst (Divides (lead a)) (sym e) (Divides-lcm_first (lead a) (lead b)) in
+              let reduced : IsReducedMove (length basis.grading) rows b = member_reduced list_grading h.reduced b of_b in
+              let same : reduced.from ≡ lead b = (reduced_ends list_grading reduced).0 in
+              lead_not_least list_grading h.reduced lower_part a of_a (reduced.divisors (lead a) first_point (rw same d) (λ s. apart (s ∙ same)))
+
+      pub overlap_is_lower : pair.second < count
+      overlap_is_lower = ⊎_elim (λ l. l) (λ l. absurd (refuse l)) (cases_lt pair.second count)
+
+      pub overlap_pair : IsPairOf (vectors_of lower.moves) (pair_of pair.first pair.second)
+      overlap_pair = record { ordered = o.ordered; within = omega (arith, overlap_is_lower, length-vectors_of lower.moves) }

@@ -1,0 +1,98 @@
+-- Steps of one weight: the next move of its run, the next pair, and why the work on a pair stops.
+use Rattle.std.proofs.Common.{◌≡◌, ◌⊎◌, ◌↔◌, inl, inr, ℕ, ◌+◌, ◌≤◌, ◌<◌, List, [], ◌∷◌, ◌++◌, length, take, drop, get_or, slice_get, Some, ℤ, All, Contains, arith, ap, refl, sym, ◌∙◌, subst}
+use Rattle.std.proofs.lemmas.List.{map-append, length_push, take-append-drop}
+use Rattle.std.proofs.lemmas.List.Elements.{All-push, All-contains}
+use Rattle.std.proofs.lemmas.Option.{slice_get_within}
+use Rattle.mk_model.specs.CoreStates.{Pair, move_at, pair_of, IsPairOf, stop_at}
+use Rattle.mk_model.specs.Orders.{lead}
+use Rattle.mk_model.specs.Overflows.{IsGenuineOverflow}
+use Rattle.mk_model.specs.Reductions.{lcm}
+use Rattle.mk_model.specs.Vectors.{weight}
+use Rattle.mk_model.proofs.Journals.{IsGenuineOverflow-append}
+use Rattle.mk_move.specs.Moves.{Weighed}
+use Rattle.mk_move.specs.MoveLists.{MoveList, BelongsTo, vectors_of}
+use Rattle.mk_reduce.proofs.Beginnings.{vector_at, length-vectors_of}
+use Rattle.mk_inter.specs.Tails.{IsReducedList}
+use Rattle.mk_minimise.specs.declared.minimal.MinimiseFault.{MinimiseFault}
+use Rattle.mk_minimise.specs.declared.minimal.MinimiseFault.TheVariants.{Memory, Overflow}
+use Rattle.mk_minimise.specs.declared.overlaps.Overlap.{Overlap}
+use Rattle.mk_minimise.specs.Minimal.{IsPairOfDegree, IsPairFault, IsMinimiseFault, operand_of}
+use Rattle.mk_minimise.specs.Overlaps.{AreCoprime, lcm_at, IsOverlap, AreOverlaps, AreOfWeight}
+use Rattle.mk_minimise.specs.Stages.{weight_at, IsFront, IsWeightRun, HasLead, TellsLeast, AreChosen}
+use Rattle.mk_minimise.proofs.ChosenMoves.{chosen_more, chosen_skip}
+use Rattle.mk_minimise.proofs.LowerFronts.{member_at, vectors_are, overlap_pair, pair_weighs}
+
+-- ---- the next move of a run
+-- chosen from the moves before a place, with their columns, and no more than they are
+pub record IsChoosing (basis : MoveList) (place : ℕ) (items : List Weighed) : Type 0 where
+  pub chosen : AreChosen (length basis.grading) basis.grading (vectors_of basis.moves) place (vectors_of items)
+  pub columns : All (λ m. length m.entries ≡ length basis.grading) items
+  pub few : length items ≤ place
+
+module _ (basis : MoveList) (h : IsReducedList basis) (start end : ℕ) (run : IsWeightRun basis start end) (links : List Weighed)
+    (tells : TellsLeast (length basis.grading) basis.grading (vectors_of basis.moves) (weight_at basis start) (vectors_of links))
+    (place : ℕ) (from : start ≤ place) (to : place < end) (items : List Weighed) (choosing : IsChoosing basis place items) (m : Weighed) (at : slice_get basis.moves place ≡ Some m) where
+  within : place < length basis.moves
+  within = slice_get_within basis.moves place m at
+
+  row_within : place < length (vectors_of basis.moves)
+  row_within = omega (arith, within, length-vectors_of basis.moves)
+
+  row_is : move_at (vectors_of basis.moves) place ≡ m.entries
+  row_is = vector_at basis.moves place m at
+
+  here : Contains (vectors_of basis.moves) (move_at (vectors_of basis.moves) place)
+  here = member_at basis h place within
+
+  pub choose_more : BelongsTo basis.priority basis.grading m → (after : List Weighed) → after ≡ items ++ m ∷ [] → (HasLead (vectors_of links) (lead m.entries) → ⊥) → IsChoosing basis (place + 1) after
+  choose_more belongs after e none =
+      let first = tells.least (move_at (vectors_of basis.moves) place) here (run.same place from to) (λ k. none (subst (λ x. HasLead (vectors_of links) (lead x)) row_is k)) in
+      let more = chosen_more (length basis.grading) basis.grading (vectors_of basis.moves) h.reduced.ascending place row_within (vectors_of items) choosing.chosen first in
+      let same : vectors_of items ++ move_at (vectors_of basis.moves) place ∷ [] ≡ vectors_of (items ++ m ∷ []) =
+      ap (λ x. vectors_of items ++ x ∷ []) row_is ∙ sym (map-append (λ (m : Weighed). m.entries) items (m ∷ [])) in
+      subst (IsChoosing basis (place + 1)) (sym e)
+      (record {
+        chosen = subst (AreChosen (length basis.grading) basis.grading (vectors_of basis.moves) (place + 1)) same more;
+        columns = All-push (λ m. length m.entries ≡ length basis.grading) items m choosing.columns (belongs.columns ∙ h.kept.columns);
+        few = omega (arith, choosing.few, length_push items m);
+      })
+
+  pub choose_skip : HasLead (vectors_of links) (lead m.entries) → IsChoosing basis (place + 1) items
+  choose_skip has =
+      let steps = tells.others (move_at (vectors_of basis.moves) place) here (run.same place from to) (subst (λ x. HasLead (vectors_of links) (lead x)) (sym row_is) has) in
+      record {
+        chosen = chosen_skip (length basis.grading) basis.grading (vectors_of basis.moves) h.reduced.ascending place row_within (vectors_of items) choosing.chosen steps;
+        columns = choosing.columns;
+        few = omega (arith, choosing.few);
+      }
+
+-- ---- the next pair of a weight
+pub overlap_there : (w : List ℤ) (moves : List (List ℤ)) (overlaps pairs : List Overlap) (bound : ℤ) → AreOverlaps w moves overlaps → AreOfWeight overlaps bound pairs → (k : ℕ) (d : Overlap) → k < length pairs → IsOverlap w moves (get_or pairs k d)
+overlap_there w moves overlaps pairs bound all found k d l = All-contains (IsOverlap w moves) overlaps (get_or pairs k d) all.each (found.each k d l).0
+
+pub weight_there : (overlaps pairs : List Overlap) (bound : ℤ) → AreOfWeight overlaps bound pairs → (k : ℕ) (d : Overlap) → k < length pairs → (get_or pairs k d).weight ≡ bound
+weight_there overlaps pairs bound found k d l = (found.each k d l).1
+
+-- ---- why the work on a pair stops
+module _ (basis : MoveList) (h : IsReducedList basis) (lower : MoveList) (front : IsFront basis lower) (more : length lower.moves < length basis.moves) (pair : Overlap) (o : IsOverlap basis.grading (vectors_of basis.moves) pair) (weighs : pair.weight ≡ weight_at basis (length lower.moves)) where
+  abbrev rows : List (List ℤ)
+  rows = vectors_of basis.moves
+
+  of_degree : (i j : ℕ) → pair_of i j ≡ pair_of pair.first pair.second → IsPairOfDegree basis.grading rows i j
+  of_degree i j e =
+      subst (λ (p : Pair). IsPairOfDegree basis.grading rows p.first p.second) (sym e)
+      (record {
+        overlap = o.overlap;
+        move = move_at rows (length lower.moves);
+        member = member_at basis h (length lower.moves) more;
+        degree = pair_weighs basis h lower front more pair o weighs;
+      })
+
+  pub pair_fault_is : (fault : MinimiseFault) → IsPairFault (vectors_of lower.moves) (pair_of pair.first pair.second) fault → IsMinimiseFault basis fault
+  pair_fault_is Memory f = tt
+  pair_fault_is (Overflow i j by operand at) (e, genuine) = (
+    of_degree i j e,
+    subst (λ (moves : List (List ℤ)). IsGenuineOverflow moves (stop_at (pair_of i j) by (operand_of operand) at.column at.left at.times at.right))
+        (ap (λ xs. xs ++ drop (length lower.moves) rows) (vectors_are basis h lower front more) ∙ take-append-drop (length lower.moves) rows)
+        (IsGenuineOverflow-append (vectors_of lower.moves) (drop (length lower.moves) rows) _ (subst (IsPairOf (vectors_of lower.moves)) (sym e) (overlap_pair basis h lower front more pair o weighs)) genuine),
+  )

@@ -1,0 +1,5 @@
+pub mod Minimal
+pub mod Links
+pub mod Overlaps
+pub mod LinkSteps
+pub mod Stages

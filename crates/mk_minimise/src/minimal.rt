@@ -1,0 +1,160 @@
+ghost use Rattle.std.specs.Prelude.{◌≡◌, ◌<◌, ◌≤◌, IfOk, IfErr, List, ℤ, ◌≤ℤ◌, length, All, Contains, slice_get, Some};
+ghost use Rattle.mk_model.specs.Bases.{IsAnswer};
+ghost use Rattle.mk_move.specs.MoveLists.{vectors_of};
+ghost use Rattle.mk_model.specs.Orders.{lead};
+ghost use Rattle.mk_model.specs.Vectors.{weight};
+ghost use Rattle.mk_inter.specs.Tails.{IsReducedList};
+ghost use Rattle.mk_minimise.specs.Minimal.{IsMinimiseFault};
+ghost use Rattle.mk_minimise.specs.Overlaps.{AreOverlaps};
+ghost use Rattle.mk_minimise.specs.Stages.{AreChosen};
+
+use crate::lower::Lower;
+use crate::overlaps::{Overlap, overlaps_of};
+use crate::stages::{choose, end_of_weight, links_of};
+use mk_inter::ReducedBasis;
+use mk_model::NoMemory;
+use mk_move::{Basis, Grading, Move, OverflowAt};
+use std::alloc::{AllocError, AllocFailed, Global};
+use std::marker::Model;
+
+/// Why the essential moves can't be found: want of memory, or a column where an entry leaves the range, at the pair of the
+/// places `i` and `j` of the reduced basis: in its difference, with no move and no operand, or in a step by the move of the place `by`
+/// from the remainder `operand`.
+#[derive(Debug, Drop)]
+pub enum MinimiseFault {
+    Memory,
+    Overflow {
+        i: u32,
+        j: u32,
+        by: Option<u32>,
+        operand: Option<Move>,
+        at: OverflowAt,
+    },
+}
+
+impl From<NoMemory> for MinimiseFault {
+    ghost use Rattle.std.specs.Prelude.{◌≡◌};
+    ghost use Rattle.mk_minimise.specs.declared.minimal.MinimiseFault.TheVariants.{Memory};
+
+    ghost from_gives = { λ _ e. e ≡ Memory };
+
+    fn from(_e: NoMemory) -> MinimiseFault {
+        MinimiseFault::Memory
+    }
+}
+
+impl From<AllocError> for MinimiseFault {
+    ghost use Rattle.std.specs.Prelude.{◌≡◌};
+    ghost use Rattle.mk_minimise.specs.declared.minimal.MinimiseFault.TheVariants.{Memory};
+
+    ghost from_gives = { λ _ e. e ≡ Memory };
+
+    fn from(_e: AllocError) -> MinimiseFault {
+        MinimiseFault::Memory
+    }
+}
+
+impl<T: Drop> From<AllocFailed<T>> for MinimiseFault {
+    ghost use Rattle.std.specs.Prelude.{◌≡◌};
+    ghost use Rattle.mk_minimise.specs.declared.minimal.MinimiseFault.TheVariants.{Memory};
+
+    ghost from_gives = { λ _ e. e ≡ Memory };
+
+    fn from(_e: AllocFailed<T>) -> MinimiseFault {
+        MinimiseFault::Memory
+    }
+}
+
+/// A list of moves, all of as many columns.
+#[derive(Debug, Drop)]
+pub struct MinimalList {
+    columns: u32,
+    moves: Vec<Move>,
+}
+
+impl Model for MinimalList {
+    ghost use Rattle.std.specs.Prelude.{◌≡◌, ◌<◌, ◌^◌, length, All};
+    ghost use Rattle.mk_minimise.specs.Minimal.{TheList};
+
+    ghost Value = { TheList };
+
+    ghost view = { λ l. record { columns = l.columns; moves = l.moves.items } };
+
+    ghost invariant = { λ l. (length l.moves.items < 2 ^ 32) × All (λ m. length m.entries ≡ l.columns) l.moves.items };
+}
+
+impl MinimalList {
+    /// How many columns its moves have.
+    pub fn columns(&self) -> u32
+        ensures { result ≡ self.now.columns }
+    {
+        self.columns
+    }
+
+    /// How many moves it has.
+    pub fn len(&self) -> u32
+        ensures { result ≡ length self.now.moves }
+    {
+        self.moves.len() as u32
+    }
+
+    /// The move of a place.
+    pub fn move_at(&self, k: u32) -> &Move
+        requires { k < length self.now.moves }
+        ensures { slice_get self.now.moves k ≡ Some result.now }
+    {
+        &self.moves[k as usize]
+    }
+}
+
+/// The essential moves of the lattice that a reduced basis spans, ascending by move order. The grading is the basis's.
+/// (Sturmfels, chapter 5: minimal generators)
+pub fn minimise(
+    alloc: Global,
+    basis: &ReducedBasis,
+    grading: &Grading,
+) -> Result<MinimalList, MinimiseFault>
+    requires { grading.now ≡ basis.now.grading }
+    ensures answer { IfOk result (λ list. IsAnswer (length basis.now.grading) (vectors_of basis.now.moves) basis.now.grading (vectors_of list.moves)) }
+    ensures columns { IfOk result (λ list. list.columns ≡ length basis.now.grading) }
+    ensures refused { IfErr result (IsMinimiseFault basis.now) }
+{
+    let moves = basis.basis();
+    let overlaps = overlaps_of(alloc, moves, heaviest(moves))?;
+    let chosen = chosen_of(alloc, moves, &overlaps)?;
+    Ok(MinimalList {
+        columns: grading.columns(),
+        moves: chosen,
+    })
+}
+
+/// The moves of a reduced basis whose lead is the least of its component, in their order.
+fn chosen_of(alloc: Global, basis: &Basis, overlaps: &[Overlap]) -> Result<Vec<Move>, MinimiseFault>
+    requires reduced { IsReducedList basis.now }
+    requires overlaps { AreOverlaps basis.now.grading (vectors_of basis.now.moves) overlaps.now }
+    ensures chosen { IfOk result (λ chosen. AreChosen (length basis.now.grading) basis.now.grading (vectors_of basis.now.moves) (length basis.now.moves) (vectors_of chosen.items)) }
+    ensures columns { IfOk result (λ chosen. All (λ m. length m.entries ≡ length basis.now.grading) chosen.items) }
+    ensures few { IfOk result (λ chosen. length chosen.items ≤ length basis.now.moves) }
+    ensures refused { IfErr result (IsMinimiseFault basis.now) }
+{
+    let mut lower = Lower::new(alloc, basis)?;
+    let mut chosen = Vec::new(alloc);
+    while lower.len() < basis.len() {
+        let end = end_of_weight(basis, lower.len());
+        let links = links_of(alloc, basis, &lower, overlaps)?;
+        choose(basis, lower.len(), end, &links, &mut chosen)?;
+        lower = lower.raised(basis, end)?;
+    }
+    Ok(chosen)
+}
+
+/// A weight that no move of a reduced basis exceeds: that of the last.
+fn heaviest(basis: &Basis) -> i128
+    requires { IsReducedList basis.now }
+    ensures { (m : List ℤ) → Contains (vectors_of basis.now.moves) m → weight basis.now.grading (lead m) ≤ℤ result }
+{
+    if basis.len() == 0 {
+        return 0;
+    }
+    basis.move_at(basis.len() - 1).weight()
+}

@@ -1,5 +1,5 @@
 -- The chosen moves, one place of the list after another.
-use Rattle.std.proofs.Common.{◌≡◌, ◌⊎◌, inl, inr, ℕ, ◌+◌, ◌≤◌, ◌<◌, List, [], ◌∷◌, ◌++◌, length, take, get_or, ℤ, All, AllPairs, Contains, arith, ap, refl, sym, ◌∙◌, subst, ⊎_elim}
+use Rattle.std.proofs.Common.{◌≡◌, ◌⊎◌, inl, inr, ℕ, ◌+◌, ◌≤◌, ◌<◌, List, [], ◌∷◌, ◌++◌, length, take, get_or, ℤ, All, AllPairs, Contains, arith, sym, ◌∙◌, subst, ⊎_elim}
 use Rattle.std.proofs.lemmas.List.{get_or_default, get_or-take, length-take, take_more, take_all, get_or_append_left, get_or_push, length_push}
 use Rattle.std.proofs.lemmas.List.Elements.{All-contains, All-nil, All-push, All-weaker, Contains-get_or, Contains-append_left, Contains-push, Contains-push_cases}
 use Rattle.mk_model.specs.Orders.{lead, ComesBefore}
@@ -7,7 +7,6 @@ use Rattle.mk_model.specs.CoreStates.{move_at}
 use Rattle.mk_model.specs.Bases.{IsAnswer}
 use Rattle.mk_model.specs.Lattices.{IsGrading}
 use Rattle.mk_model.specs.ReducedBases.{IsLeastOfComponent, IsReducedBasis}
-use Rattle.mk_model.proofs.Lists.{Contains-none}
 use Rattle.mk_model.proofs.Components.{answer_from_components}
 use Rattle.mk_minimise.specs.Stages.{StepsLighter, AreChosen}
 

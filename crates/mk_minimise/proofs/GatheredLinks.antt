@@ -1,5 +1,5 @@
 -- The links of a weight, gathered from one pair after another.
-use Rattle.std.proofs.Common.{◌≡◌, ◌⊎◌, inl, inr, ℕ, ◌+◌, ◌≤◌, ◌<◌, List, [], ◌∷◌, ◌++◌, length, get_or, Option, None, Some, ℤ, pos, ◌≤ℤ◌, ◌<ℤ◌, All, Contains, arith, ap, refl, sym, ◌∙◌, subst, ⊎_elim}
+use Rattle.std.proofs.Common.{◌≡◌, ◌⊎◌, inl, inr, ℕ, ◌<◌, List, [], ◌∷◌, ◌++◌, length, Option, None, Some, ℤ, pos, All, Contains, arith, ap, refl, sym, ◌∙◌, subst, ⊎_elim}
 use Rattle.std.proofs.lemmas.Int.{ints}
 use Rattle.std.proofs.lemmas.List.{map-append}
 use Rattle.std.proofs.lemmas.List.Elements.{All-nil, All-push, All-weaker, All-contains, Contains-append_left, Contains-append_right, Contains-append_cases, Contains-push}
@@ -7,11 +7,11 @@ use Rattle.mk_model.specs.CoreStates.{move_at, pair_of, difference}
 use Rattle.mk_model.specs.Lattices.{IsGrading}
 use Rattle.mk_model.specs.Orders.{IsOriented, standard, lead}
 use Rattle.mk_model.specs.Pairs.{AreOrientedMoves, JoinedBelow}
-use Rattle.mk_model.specs.Reductions.{lcm, Reaches, Reduct}
+use Rattle.mk_model.specs.Reductions.{lcm, Reduct}
 use Rattle.mk_model.specs.Reductions.Reaches.{here}
-use Rattle.mk_model.specs.Vectors.{entry, zeros, subtract, negate, positive_part, negative_part, weight}
+use Rattle.mk_model.specs.Vectors.{entry, zeros, subtract, negate, weight}
 use Rattle.mk_model.proofs.Lists.{Contains-none}
-use Rattle.mk_model.proofs.VectorAlgebra.{columns, lengths, positive_part-negate}
+use Rattle.mk_model.proofs.VectorAlgebra.{columns, positive_part-negate}
 use Rattle.mk_model.proofs.OrderLaws.{IsOriented-not_zero}
 use Rattle.mk_model.proofs.Divisors.{lcm-comm}
 use Rattle.mk_model.proofs.Confluence.{JoinedBelow-same, JoinedBelow-swap}
@@ -19,14 +19,13 @@ use Rattle.mk_model.proofs.Reducts.{joined_below_weaker, joined_by_disjoint, red
 use Rattle.mk_move.specs.Moves.{Weighed}
 use Rattle.mk_move.specs.MoveLists.{MoveList, BelongsTo, vectors_of}
 use Rattle.mk_move.specs.declared.side.Side.TheVariants.{Plus, Minus}
-use Rattle.mk_reduce.specs.Works.{rest_of}
 use Rattle.mk_reduce.proofs.Beginnings.{length-vectors_of}
 use Rattle.mk_inter.specs.Tails.{IsReducedList}
 use Rattle.mk_minimise.specs.declared.overlaps.Overlap.{Overlap}
 use Rattle.mk_minimise.specs.Links.{AreLower, IsLink, AreLinks}
-use Rattle.mk_minimise.specs.LinkSteps.{IsLinkStep, NoneEnds, IsLeftOf, IsAddedLeft, IsAdded}
-use Rattle.mk_minimise.specs.Overlaps.{lcm_at, overlap_at, IsOverlap, IsListed, AreOverlaps, AreOfWeight}
-use Rattle.mk_minimise.specs.Stages.{weight_at, IsFront, IsNormalRest, IsRemainder, HasLead, StepsLighter, TellsLeast}
+use Rattle.mk_minimise.specs.LinkSteps.{IsLeftOf, IsAddedLeft, IsAdded}
+use Rattle.mk_minimise.specs.Overlaps.{overlap_at, IsOverlap, IsListed, AreOverlaps, AreOfWeight}
+use Rattle.mk_minimise.specs.Stages.{weight_at, IsFront, IsNormalRest, IsRemainder, TellsLeast}
 use Rattle.mk_minimise.proofs.LinkLaws.{link_of_pair, link_negated}
 use Rattle.mk_minimise.proofs.LeastLeads.{PairsJoined, both_oriented, lead_is_first, lead_steps_lighter}
 use Rattle.mk_minimise.proofs.LinkChains.{something, steps_reduce, chain, links_more, pair_by_zero, pair_by_link}

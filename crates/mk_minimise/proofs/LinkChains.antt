@@ -1,21 +1,20 @@
 -- What links leave of a link: nothing, or a link; and the links with that one more.
-use Rattle.std.proofs.Common.{◌≡◌, ◌≢◌, ◌⊎◌, inl, inr, ℕ, List, [], ◌∷◌, ◌++◌, length, ℤ, pos, negsuc, true, false, Contains, All, arith, ap, refl, sym, ◌∙◌, subst, ⊎_elim}
+use Rattle.std.proofs.Common.{◌≡◌, ◌≢◌, ◌⊎◌, inl, inr, ℕ, List, [], ◌∷◌, ◌++◌, length, ℤ, pos, true, false, Contains, All, arith, ap, refl, sym, ◌∙◌, subst, ⊎_elim}
 use Rattle.std.specs.List.{list_all}
 use Rattle.std.specs.Ordering.{int_eq}
 use Rattle.std.proofs.lemmas.Bool.{both_ways, cases_Bool}
 use Rattle.std.proofs.lemmas.Bool.Decides.{Decides-by_and, Decides-int_eq}
 use Rattle.std.proofs.lemmas.Int.{ints}
 use Rattle.std.proofs.lemmas.List.{get_or_default}
-use Rattle.std.proofs.lemmas.List.Elements.{All-contains, All-push, Contains-append_left, Contains-append_right, Contains-push, Contains-push_cases}
+use Rattle.std.proofs.lemmas.List.Elements.{All-push, Contains-append_left, Contains-append_right, Contains-push_cases}
 use Rattle.mk_model.specs.Vectors.{entry, zeros, add, subtract, negate, scale, positive_part, negative_part, weight}
 use Rattle.mk_model.specs.Lattices.{IsGrading, is_zero}
 use Rattle.mk_model.specs.Orders.{IsOriented, standard, lead}
-use Rattle.mk_model.specs.Bases.{IsMove}
 use Rattle.mk_model.specs.Pairs.{AreOrientedMoves, JoinedBelow}
 use Rattle.mk_model.specs.Reductions.{Divides, Reaches, IsReduction, Reduct}
 use Rattle.mk_model.specs.Reductions.Reaches.{here, go}
 use Rattle.mk_model.specs.ReducedBases.{IsReducedBasis}
-use Rattle.mk_model.proofs.VectorAlgebra.{lengths, columns, same_vectors, only_zeros, scale-one, scale-minus_one, positive_part-negate, weight-zeros, weight-parts}
+use Rattle.mk_model.proofs.VectorAlgebra.{lengths, columns, same_vectors, only_zeros, scale-one, scale-minus_one, positive_part-negate, weight-zeros}
 use Rattle.mk_model.proofs.LatticeLaws.{is_zero-entries, InLattice-columns}
 use Rattle.mk_model.proofs.MoveLaws.{IsMove-lead_weight}
 use Rattle.mk_model.proofs.Divisors.{Divides-itself}

@@ -1,17 +1,16 @@
 -- Links whose lead is a part of a move, and what a move is without such a link.
-use Rattle.std.proofs.Common.{◌≡◌, ◌≢◌, ◌⊎◌, ◌↔◌, inl, inr, ℕ, ◌<◌, ◌≤◌, Bool, true, false, IsTrue, List, [], ◌∷◌, ◌++◌, length, take, get_or, slice_get, Option, None, Some, IfSome, Result, Ok, Err, ℤ, pos, neg_ℤ, ◌-ℤ◌, ◌*ℤ◌, ◌<ℤ◌, All, Contains, arith, ap, refl, sym, ◌∙◌, subst, ⊎_elim}
+use Rattle.std.proofs.Common.{◌≡◌, ◌↔◌, inl, inr, ℕ, ◌<◌, Bool, false, IsTrue, List, [], ◌∷◌, ◌++◌, length, get_or, slice_get, Option, None, Some, Ok, ℤ, pos, ◌-ℤ◌, ◌*ℤ◌, All, Contains, arith, ap, refl, sym, ◌∙◌, subst, ⊎_elim}
 use Rattle.std.proofs.lemmas.Bool.{both_ways}
 use Rattle.std.proofs.lemmas.Int.{ints}
-use Rattle.std.proofs.lemmas.List.{length-map, map-append, get_or-map}
-use Rattle.std.proofs.lemmas.List.Elements.{All-map, All-contains}
+use Rattle.std.proofs.lemmas.List.{get_or-map}
 use Rattle.std.proofs.lemmas.Option.{slice_get_within, get_or_from_slice_get}
 use borrow.Author.Differences.{up, down}
-use Rattle.mk_model.specs.Vectors.{entry, zeros, subtract, negate, scale, positive_part, negative_part, weight, IsEntry, IsPoint}
-use Rattle.mk_model.specs.Orders.{IsOriented, lead}
+use Rattle.mk_model.specs.Vectors.{entry, zeros, positive_part, negative_part, weight, IsEntry, IsPoint}
+use Rattle.mk_model.specs.Orders.{lead}
 use Rattle.mk_model.specs.Overflows.{IsBeyond, IsTimesDividing}
 use Rattle.mk_model.specs.Reductions.{Divides, Reaches}
 use Rattle.mk_model.specs.Reductions.Reaches.{here, go}
-use Rattle.mk_model.proofs.VectorAlgebra.{lengths, columns, same_vectors, scale-one, weight-parts, IsPoint-positive_part, IsPoint-negative_part, positive_part_at, negative_part_at}
+use Rattle.mk_model.proofs.VectorAlgebra.{lengths, scale-one, weight-parts, IsPoint-positive_part, IsPoint-negative_part, positive_part_at, negative_part_at}
 use Rattle.mk_model.proofs.Fibres.{parts_apart}
 use Rattle.mk_model.proofs.Divisors.{Divides-itself}
 use Rattle.mk_model.proofs.DivisorWeights.{divisor_cases}
@@ -24,9 +23,9 @@ use Rattle.mk_move.specs.Steps.{minus_times, TakesOff, IsOverflow}
 use Rattle.mk_move.specs.declared.side.Side.{Side}
 use Rattle.mk_move.specs.declared.side.Side.TheVariants.{Plus, Minus}
 use Rattle.mk_move.specs.declared.steps.OverflowAt.{OverflowAt}
-use Rattle.mk_reduce.specs.Works.{rest_of, IsRest}
+use Rattle.mk_reduce.specs.Works.{IsRest}
 use Rattle.mk_reduce.proofs.BasisMoves.{grading_of, level_of}
-use Rattle.mk_reduce.proofs.Beginnings.{vector_at, length-vectors_of, rest_is, rest_graded}
+use Rattle.mk_reduce.proofs.Beginnings.{length-vectors_of, rest_is, rest_graded}
 use Rattle.mk_reduce.proofs.Heights.{height, step_lowers}
 use Rattle.mk_move.proofs.Parts.{length-oriented}
 use Rattle.mk_minimise.specs.LinkSteps.{IsEnd, times_at, IsLinkAt, NoneIsEnd, IsLessLink, IsLinkStep, NoneEnds, IsLeftOf, IsAdded}

@@ -1,8 +1,8 @@
 -- The first moves of a reduced basis, up to a place at which the weight rises: they are the lower moves of that weight.
-use Rattle.std.proofs.Common.{◌≡◌, ◌⊎◌, inl, inr, ℕ, ◌+◌, ◌≤◌, ◌<◌, ◌^◌, List, [], ◌∷◌, ◌++◌, length, take, drop, get_or, slice_get, Some, ℤ, ◌≤ℤ◌, ◌<ℤ◌, All, Contains, arith, ap, refl, sym, ◌∙◌, subst, ⊎_elim}
+use Rattle.std.proofs.Common.{◌≡◌, ◌⊎◌, inl, inr, ℕ, ◌+◌, ◌≤◌, ◌<◌, ◌^◌, List, [], ◌∷◌, ◌++◌, length, take, get_or, slice_get, Some, ℤ, ◌<ℤ◌, All, Contains, arith, ap, sym, ◌∙◌, subst, ⊎_elim}
 use Rattle.std.proofs.lemmas.Bool.{cases_lt}
 use Rattle.std.proofs.lemmas.Int.{ints}
-use Rattle.std.proofs.lemmas.List.{get_or_default, get_or-take, length-take, take-map, take_more, length-map, map-append}
+use Rattle.std.proofs.lemmas.List.{get_or_default, get_or-take, length-take, take-map, take_more, map-append}
 use Rattle.std.proofs.lemmas.List.Elements.{All-take, Contains-get_or}
 use Rattle.std.proofs.lemmas.Option.{get_or_from_slice_get, slice_get_within}
 use Rattle.mk_model.specs.CoreStates.{move_at, IsPairOf, pair_of}
@@ -26,7 +26,7 @@ use Rattle.mk_inter.proofs.FoundLeads.{leads_columns, length-leads_of}
 use Rattle.mk_inter.proofs.LeastTails.{reduced_once}
 use Rattle.mk_minimise.specs.declared.overlaps.Overlap.{Overlap}
 use Rattle.mk_minimise.specs.Links.{AreLower}
-use Rattle.mk_minimise.specs.Overlaps.{lcm_at, IsOverlap}
+use Rattle.mk_minimise.specs.Overlaps.{IsOverlap}
 use Rattle.mk_minimise.specs.Stages.{weight_at, IsCut, IsFront}
 use Rattle.mk_minimise.proofs.LowerMoves.{lead_not_least}
 use Rattle.mk_minimise.proofs.RunsOfWeight.{weights_rise}

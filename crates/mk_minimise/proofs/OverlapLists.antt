@@ -1,12 +1,9 @@
 -- Pairs that are listed one after another, and then sorted.
-use Rattle.std.proofs.Common.{◌≡◌, ◌⊎◌, inl, inr, ℕ, ◌+◌, ◌<◌, ◌≤◌, List, [], ◌∷◌, ◌++◌, length, ℤ, All, AllPairs, Contains, arith, ap, refl, sym, ◌∙◌, subst, ⊎_elim}
+use Rattle.std.proofs.Common.{◌≡◌, ◌⊎◌, inl, inr, ℕ, ◌+◌, ◌<◌, ◌≤◌, List, [], ◌∷◌, ◌++◌, length, ℤ, Contains, arith, sym, subst, ⊎_elim}
 use Rattle.std.specs.List.Sorted.{IsPermutation}
-use Rattle.std.proofs.lemmas.Int.{ints}
 use Rattle.std.proofs.lemmas.List.Elements.{All-nil, All-push, Contains-append_left, Contains-push}
 use Rattle.std.proofs.lemmas.List.Sorted.{All-permutation, Contains-permutation}
 use Rattle.mk_model.specs.CoreStates.{pair_of, IsLesser}
-use Rattle.mk_model.specs.Orders.{lead}
-use Rattle.mk_model.specs.Vectors.{weight}
 use Rattle.mk_minimise.specs.declared.overlaps.Overlap.{Overlap}
 use Rattle.mk_minimise.specs.Overlaps.{lcm_at, AreCoprime, IsHeavier, overlap_at, IsOverlap, IsListed, ListsBefore, AreOverlaps}
 use Rattle.mk_minimise.proofs.WeightOrder.{Ascending}

@@ -1,5 +1,5 @@
 -- The pair of two places of a basis, from its moves.
-use Rattle.std.proofs.Common.{◌≡◌, ℕ, ◌<◌, List, length, ℤ, ◌≤ℤ◌, ◌<ℤ◌, Contains, slice_get, Some, arith, ap, refl, sym, ◌∙◌, subst}
+use Rattle.std.proofs.Common.{◌≡◌, ℕ, ◌<◌, List, ℤ, ◌≤ℤ◌, ◌<ℤ◌, Contains, slice_get, Some, arith, ap, sym, ◌∙◌, subst}
 use Rattle.std.proofs.lemmas.Int.{ints}
 use Rattle.std.proofs.lemmas.Option.{slice_get_within}
 use Rattle.mk_model.specs.CoreStates.{move_at}
@@ -10,7 +10,6 @@ use Rattle.mk_model.specs.Vectors.{weight}
 use Rattle.mk_move.specs.Moves.{Weighed}
 use Rattle.mk_move.specs.MoveLists.{vectors_of}
 use Rattle.mk_reduce.proofs.Beginnings.{vector_at, length-vectors_of}
-use Rattle.mk_minimise.specs.declared.overlaps.Overlap.{Overlap}
 use Rattle.mk_minimise.specs.Overlaps.{lcm_at, AreCoprime, IsHeavier, overlap_at, IsOverlap}
 
 module _ (w : List ℤ) (moves : List Weighed) (i j : ℕ) (a b : Weighed) (of_a : slice_get moves i ≡ Some a) (of_b : slice_get moves j ≡ Some b) where

@@ -1,13 +1,11 @@
 -- Steps of one weight: the next move of its run, the next pair, and why the work on a pair stops.
-use Rattle.std.proofs.Common.{◌≡◌, ◌⊎◌, ◌↔◌, inl, inr, ℕ, ◌+◌, ◌≤◌, ◌<◌, List, [], ◌∷◌, ◌++◌, length, take, drop, get_or, slice_get, Some, ℤ, All, Contains, arith, ap, refl, sym, ◌∙◌, subst}
+use Rattle.std.proofs.Common.{◌≡◌, ℕ, ◌+◌, ◌≤◌, ◌<◌, List, [], ◌∷◌, ◌++◌, length, drop, get_or, slice_get, Some, ℤ, All, Contains, arith, ap, sym, ◌∙◌, subst}
 use Rattle.std.proofs.lemmas.List.{map-append, length_push, take-append-drop}
 use Rattle.std.proofs.lemmas.List.Elements.{All-push, All-contains}
 use Rattle.std.proofs.lemmas.Option.{slice_get_within}
 use Rattle.mk_model.specs.CoreStates.{Pair, move_at, pair_of, IsPairOf, stop_at}
 use Rattle.mk_model.specs.Orders.{lead}
 use Rattle.mk_model.specs.Overflows.{IsGenuineOverflow}
-use Rattle.mk_model.specs.Reductions.{lcm}
-use Rattle.mk_model.specs.Vectors.{weight}
 use Rattle.mk_model.proofs.Journals.{IsGenuineOverflow-append}
 use Rattle.mk_move.specs.Moves.{Weighed}
 use Rattle.mk_move.specs.MoveLists.{MoveList, BelongsTo, vectors_of}
@@ -17,7 +15,7 @@ use Rattle.mk_minimise.specs.declared.minimal.MinimiseFault.{MinimiseFault}
 use Rattle.mk_minimise.specs.declared.minimal.MinimiseFault.TheVariants.{Memory, Overflow}
 use Rattle.mk_minimise.specs.declared.overlaps.Overlap.{Overlap}
 use Rattle.mk_minimise.specs.Minimal.{IsPairOfDegree, IsPairFault, IsMinimiseFault, operand_of}
-use Rattle.mk_minimise.specs.Overlaps.{AreCoprime, lcm_at, IsOverlap, AreOverlaps, AreOfWeight}
+use Rattle.mk_minimise.specs.Overlaps.{IsOverlap, AreOverlaps, AreOfWeight}
 use Rattle.mk_minimise.specs.Stages.{weight_at, IsFront, IsWeightRun, HasLead, TellsLeast, AreChosen}
 use Rattle.mk_minimise.proofs.ChosenMoves.{chosen_more, chosen_skip}
 use Rattle.mk_minimise.proofs.LowerFronts.{member_at, vectors_are, overlap_pair, pair_weighs}

@@ -1,10 +1,10 @@
 -- Pairs in the order of their weights: what a sort gives, and where a search among them ends.
-use Rattle.std.proofs.Common.{◌≡◌, ◌⊎◌, inl, inr, ℕ, zero, suc, ◌+◌, ◌-◌, ◌≤◌, ◌<◌, Bool, true, false, List, length, take, drop, get_or, ℤ, ◌≤ℤ◌, ◌<ℤ◌, All, AllPairs, Contains, arith, ap, refl, sym, ◌∙◌, subst, int_le, int_lt, int_cmp, is_lt, ⊎_elim, pos}
+use Rattle.std.proofs.Common.{◌≡◌, ◌⊎◌, inl, inr, ℕ, zero, suc, ◌+◌, ◌-◌, ◌≤◌, ◌<◌, true, false, List, length, take, drop, get_or, ℤ, ◌≤ℤ◌, ◌<ℤ◌, All, AllPairs, Contains, arith, ap, sym, ◌∙◌, subst, int_le, int_lt, int_cmp, is_lt, ⊎_elim, pos}
 use Rattle.std.specs.List.Sorted.{IsSortedByKey, IsPartitionedBy, IsPartitionPoint}
 use Rattle.std.proofs.lemmas.Bool.{cases_lt}
 use Rattle.std.proofs.lemmas.List.{get_or-take, get_or-drop, length-take, length-drop}
 use Rattle.std.proofs.lemmas.List.Elements.{Contains-get_or}
-use Rattle.std.proofs.lemmas.Int.{ints, by_lt_z}
+use Rattle.std.proofs.lemmas.Int.{ints}
 use Rattle.mk_minimise.specs.declared.overlaps.Overlap.{Overlap}
 use Rattle.mk_minimise.specs.Overlaps.{AreOfWeight}
 

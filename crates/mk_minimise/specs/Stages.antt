@@ -8,9 +8,8 @@ use Rattle.mk_model.specs.Reductions.{Reduct, IsNormal}
 use Rattle.mk_model.specs.Vectors.{zeros, weight}
 use Rattle.mk_model.specs.Walks.{Joined}
 use Rattle.mk_move.specs.Moves.{Weighed}
-use Rattle.mk_move.specs.MoveLists.{MoveList, BelongsTo, vectors_of}
+use Rattle.mk_move.specs.MoveLists.{MoveList, vectors_of}
 use Rattle.mk_reduce.specs.Works.{IsRest}
-use Rattle.mk_minimise.specs.Links.{AreLower, AreLinks}
 
 -- the weight of the lead of a place
 abbrev pub weight_at : MoveList → ℕ → ℤ

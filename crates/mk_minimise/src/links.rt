@@ -16,11 +16,11 @@ pub(crate) fn add_link(
     basis: &Basis,
     links: &mut Vec<Move>,
 ) -> Result<(), NoMemory>
+    requires basis { IsBasis basis.now }
     requires rest { IsRest basis.now.grading rest }
     requires links { All (BelongsTo basis.now.priority basis.now.grading) links.old.items }
     ensures { OnOk result (IsAdded basis.now rest links.old.items links.new.items) }
 {
-    prove!(basis.len() >= 0);
     if let Some(mut left) = left_of(alloc, rest, basis, links)? {
         left.orient(basis.priority());
         links.push(left)?;

@@ -1,7 +1,3 @@
-ghost use Rattle.std.specs.Prelude.{◌≡◌, ◌≤◌, ◌<◌, [], length, take, IfOk};
-ghost use Rattle.mk_move.specs.MoveLists.{MoveList};
-ghost use Rattle.mk_minimise.specs.Stages.{IsFront, IsCut};
-
 use mk_model::NoMemory;
 use mk_move::{Basis, Finder};
 use mk_reduce::PlainFinder;
@@ -35,11 +31,11 @@ impl Lower {
 
     /// None of the moves of a basis, with its list and its grading.
     pub(crate) fn new(alloc: Global, basis: &Basis) -> Result<Lower, NoMemory>
+        requires { length basis.now.priority ≡ length basis.now.grading }
         ensures { IfOk result (λ lower. lower ≡ record basis.now { moves = [] }) }
     {
         let priority = basis.priority().try_copy()?;
         let grading = basis.grading().try_copy()?;
-        prove!(basis.len() >= 0);
         Ok(Lower {
             basis: Basis::new(alloc, priority, grading),
             finder: PlainFinder::new(alloc),

@@ -1,10 +1,10 @@
-use Rattle.std.proofs.Common.{◌≡◌, slice_get, Option, Some, None, List, ℤ, All, refl, sym, ◌∙◌, subst, length}
+use Rattle.std.proofs.Common.{◌≡◌, slice_get, Option, Some, None, List, ℤ, refl, sym, subst, length}
 use Rattle.std.proofs.lemmas.Option.{slice_get_read}
 use Rattle.mk_model.specs.Reductions.Reaches.{here}
 use Rattle.mk_move.specs.Moves.{Weighed}
 use Rattle.mk_reduce.specs.Works.{IsRest}
 use Rattle.mk_minimise.specs.LinkSteps.{IsEnd, IsLessLink}
-use Rattle.mk_minimise.proofs.LinkEnds.{link_columns, found_rest, found_part, end_at, goes_on, falls, ends_zero, ends_left}
+use Rattle.mk_minimise.proofs.LinkEnds.{found_rest, found_part, end_at, goes_on, falls, ends_zero, ends_left}
 use Rattle.mk_minimise.proofs.links.left_of.Goals as goal
 use Rattle.mk_minimise.proofs.links.left_of.Goals.{After-grading}
 

@@ -1,5 +1,4 @@
 use Rattle.mk_reduce.proofs.Heights.{height}
-use Rattle.mk_move.specs.MoveLists.{IsBasis}
 use Rattle.mk_minimise.proofs.LinkEnds.{IsSoFar}
 use Rattle.mk_minimise.proofs.links.left_of.Given as goal
 

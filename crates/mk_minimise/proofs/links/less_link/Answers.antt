@@ -1,10 +1,8 @@
-use Rattle.std.proofs.Common.{◌≡◌, List, ℤ, Option, Result, Ok, Err, ap, sym, ◌∙◌, subst}
+use Rattle.std.proofs.Common.{◌≡◌, ℤ, Err, ap, sym, ◌∙◌, subst}
 use mir.Syntax.{w64}
 use mir.Val.{to_z, of_z}
-use Rattle.mk_model.specs.Vectors.{IsEntry}
 use Rattle.mk_move.proofs.Readings.{entry_read}
 use Rattle.mk_move.specs.Steps.{TakesOff}
-use Rattle.mk_move.specs.declared.steps.StepFault.TheVariants.{Overflow}
 use Rattle.mk_minimise.specs.LinkSteps.{times_at}
 use Rattle.mk_minimise.proofs.LinkEnds.{times_is_entry, never_beyond, less_link_is}
 use Rattle.mk_minimise.proofs.links.less_link.Goals as goal

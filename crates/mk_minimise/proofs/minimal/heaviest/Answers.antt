@@ -1,4 +1,4 @@
-use Rattle.std.proofs.Common.{◌≡◌, ◌-◌, arith, sym, ◌∙◌, subst, ℤ, ◌≤ℤ◌, List, Contains, length}
+use Rattle.std.proofs.Common.{◌-◌, arith, sym, ◌∙◌, subst, ℤ, ◌≤ℤ◌, List, Contains}
 use Rattle.mk_model.specs.Orders.{lead}
 use Rattle.mk_model.specs.Vectors.{weight}
 use Rattle.mk_move.specs.MoveLists.{vectors_of}

@@ -1,4 +1,4 @@
-use Rattle.std.proofs.Common.{◌≡◌, List, ℤ, length, arith, ap, ◌∙◌, sym, ◌*ℤ◌}
+use Rattle.std.proofs.Common.{◌≡◌, length, arith, ap, ◌∙◌, sym, ◌*ℤ◌}
 use mir.Syntax.{w64, w128}
 use mir.Val.{to_z, of_z}
 use Rattle.mk_model.specs.Vectors.{entry}

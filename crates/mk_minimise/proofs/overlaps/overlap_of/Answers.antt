@@ -1,4 +1,4 @@
-use Rattle.std.proofs.Common.{◌≡◌, inr, List, ℤ, ◌<ℤ◌, ap, ◌∙◌, sym}
+use Rattle.std.proofs.Common.{◌≡◌, inr, List, ℤ, ◌<ℤ◌, ap, ◌∙◌}
 use mir.Syntax.{w128}
 use mir.Val.{to_z, of_z}
 use Rattle.std.proofs.lemmas.Int.{to_z-of_z}

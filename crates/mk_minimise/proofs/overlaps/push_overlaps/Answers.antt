@@ -1,7 +1,6 @@
-use Rattle.std.proofs.Common.{◌≡◌, ◌+◌, List, ap, sym, ◌∙◌, subst}
+use Rattle.std.proofs.Common.{◌+◌, ap, sym, ◌∙◌, subst}
 use Rattle.mk_model.specs.CoreStates.{pair_of}
 use Rattle.mk_move.specs.MoveLists.{vectors_of}
-use Rattle.mk_minimise.specs.declared.overlaps.Overlap.{Overlap}
 use Rattle.mk_minimise.specs.Overlaps.{ListsBefore}
 use Rattle.mk_minimise.proofs.OverlapLists.{lists_push, lists_skip}
 use Rattle.mk_minimise.proofs.overlaps.push_overlaps.Goals as goal

@@ -24,7 +24,8 @@ loop-place-preserved c =
     let told = tells (goal.at.loop-place-preserved c).After-has_lead in
     elim c.if-not-has_lead.branch [
       | then-not-has_lead+in_ok-try_copy+in_ok-push b ↦
-          let pushed = ap (λ v. v.items) b.chosen-is ∙ b.in_ok-push.ensures.items ∙ ap (λ (x : Weighed). items ++ x ∷ []) b.in_ok-try_copy.ensures in
+          let pushed : c.if-not-has_lead.chosen.items ≡ items ++ m ∷ [] =
+          ◌∙◌ {A = List Weighed} (ap (λ v. v.items) b.chosen-is) (◌∙◌ {A = List Weighed} b.in_ok-push.ensures.items (ap (λ (x : Weighed). items ++ x ∷ []) b.in_ok-try_copy.ensures)) in
           choose_more basis c.requires.reduced c.args.start c.args.end c.requires.run links c.requires.tells place c.loop-place.auto.place c.loop-place-test.true items c.loop-place.invariant m c.move_at-m.ensures.value
           c.move_at-m.ensures.belongs c.if-not-has_lead.chosen.items pushed (failed (HasLead (vectors_of links) (lead m.entries)) c.has_lead.result told b.if-not-has_lead.true)
       | else-not-has_lead b ↦

@@ -1,4 +1,4 @@
-use Rattle.std.proofs.Common.{All, false, subst, refl, length, arith, IsTrue, List, ℤ}
+use Rattle.std.proofs.Common.{All, false, subst, refl, length}
 use Rattle.std.proofs.lemmas.Bool.{both_ways}
 use Rattle.std.proofs.lemmas.List.{take_all}
 use Rattle.std.proofs.lemmas.Option.{slice_get_read}

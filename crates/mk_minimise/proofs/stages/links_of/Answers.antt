@@ -5,7 +5,7 @@ use Rattle.std.proofs.lemmas.List.{take_all, take_more}
 use Rattle.mk_model.specs.CoreStates.{pair_of}
 use Rattle.mk_move.specs.MoveLists.{vectors_of}
 use Rattle.mk_minimise.specs.declared.overlaps.Overlap.{Overlap}
-use Rattle.mk_minimise.specs.Overlaps.{IsOverlap, AreOfWeight}
+use Rattle.mk_minimise.specs.Overlaps.{AreOfWeight}
 use Rattle.mk_minimise.specs.LinkSteps.{IsAdded}
 use Rattle.mk_minimise.specs.Minimal.{IsMinimiseFault}
 use Rattle.mk_minimise.specs.Stages.{weight_at, IsNormalRest, IsRemainder}

@@ -1,7 +1,6 @@
 use Rattle.std.proofs.Common.{◌≡◌, ◌∷◌, ◌++◌, [], ap, ◌∙◌, rules}
 use Rattle.mk_model.specs.Orders.{lead}
 use Rattle.mk_move.specs.Moves.{Weighed}
-use Rattle.mk_move.specs.MoveLists.{MoveList}
 use Rattle.mk_minimise.proofs.LowerFronts.{raising_columns, raising_more}
 use Rattle.mk_minimise.proofs.lower.Lower.raised.Goals as goal
 

@@ -7,7 +7,7 @@ use Rattle.mk_model.specs.Events.{HasNormalReduct}
 use Rattle.mk_model.specs.Legal.{IsLegal, IsEnded, IsKept}
 use Rattle.mk_model.specs.Overflows.{IsGenuineOverflow}
 use Rattle.mk_model.proofs.LegalEvents.{phase_is_legal}
-use Rattle.mk_move.specs.MoveLists.{MoveList, IsBasis, vectors_of}
+use Rattle.mk_move.specs.MoveLists.{TheBasis, IsBasis, vectors_of}
 use Rattle.mk_ledger.specs.Entries.{settle_of, settles_of}
 use Rattle.mk_ledger.specs.Halts.{stop_of, halt_as}
 use Rattle.mk_ledger.specs.FirstHalts.{IsFirstHalt}
@@ -78,7 +78,7 @@ module _ (ledger : TheLedger) (phase : Phase) (same : IsPhaseOf ledger phase) wh
   pub completed : IsEnded ledger.state → IsCompleted phase
   completed ended = record {
     basis = subst IsBasis (sym same.basis) same.kept.basis;
-    legal = subst (λ (b : MoveList). IsLegal (length b.grading) b.priority (state_of phase (length phase.journal) 65536)) (sym same.basis) completed_legal;
+    legal = subst (λ (b : TheBasis). IsLegal (length b.grading) b.priority (state_of phase (length phase.journal) 65536)) (sym same.basis) completed_legal;
     ended = phase_ended (length phase.journal) 65536 ended;
   }
 

@@ -4,7 +4,7 @@ use Rattle.mk_model.specs.CoreStates.{Pair, difference}
 use Rattle.mk_model.specs.Overflows.{IsGenuineOverflow}
 use Rattle.mk_model.specs.Reductions.{Reduct}
 use Rattle.mk_move.specs.Moves.{Weighed}
-use Rattle.mk_move.specs.MoveLists.{MoveList, vectors_of}
+use Rattle.mk_move.specs.MoveLists.{TheBasis, vectors_of}
 use Rattle.mk_reduce.specs.Stops.{overflow_of, IsDifferenceRefused, IsStepRefused}
 use Rattle.mk_reduce.specs.Works.{TheWork, WorkOf, IsRest, rest_of, IsReduced}
 use Rattle.mk_reduce.specs.declared.stop.Stop.{Stop}
@@ -12,7 +12,7 @@ use Rattle.mk_reduce.specs.declared.stop.Stop.TheVariants.{Memory, Overflow}
 use Rattle.mk_ledger.specs.Halts.{operand_of}
 use Rattle.mk_core.specs.Remainders.{IsRemainder, IsWorkFault, fault_for}
 
-module _ (basis : MoveList) (pair : Pair) where
+module _ (basis : TheBasis) (pair : Pair) where
   left_is : (rest : Option Weighed) → Reduct (vectors_of basis.moves) (difference (vectors_of basis.moves) pair) (rest_of (length basis.grading) rest) → IfSome rest (IsRest basis.grading) →
       IsReduced (vectors_of basis.moves) rest → IsRemainder basis pair rest
   left_is None reduct rest normal = reduct

@@ -12,7 +12,7 @@ use Rattle.mk_model.specs.Reductions.{Reduct, IsNormal}
 use Rattle.mk_model.specs.Orders.{lead}
 use Rattle.mk_model.proofs.VectorAlgebra.{length-negate}
 use Rattle.mk_move.specs.Moves.{Weighed, IsGraded, IsRowOriented}
-use Rattle.mk_move.specs.MoveLists.{MoveList, BelongsTo, IsBasis, vectors_of}
+use Rattle.mk_move.specs.MoveLists.{TheBasis, BelongsTo, IsBasis, vectors_of}
 use Rattle.mk_reduce.specs.Leads.{leads_of}
 use Rattle.mk_reduce.specs.Works.{IsRest}
 use Rattle.mk_ledger.specs.Ledgers.{TheLedger, IsLedger}
@@ -98,7 +98,7 @@ module _ (ledger : TheLedger) (kept : IsLedger ledger) where
     full_unclaimed front m (e, f, h, b) = halting_unclaimed (Full h.pair) h.halting b
 
 -- ---- the finder's leads, where the move of a place is new
-module _ (basis after : MoveList) (m : Weighed) (longer : after ≡ record basis { moves = basis.moves ++ m ∷ [] }) (kept : IsBasis after) where
+module _ (basis after : TheBasis) (m : Weighed) (longer : after ≡ record basis { moves = basis.moves ++ m ∷ [] }) (kept : IsBasis after) where
   earlier : take (length basis.moves) after.moves ≡ basis.moves
   earlier = ap (λ b. take (length basis.moves) b.moves) longer ∙ take_at basis.moves (m ∷ []) (length basis.moves) refl
 

@@ -6,7 +6,7 @@ use Rattle.mk_model.specs.CoreStates.{Pair, difference}
 use Rattle.mk_model.specs.Overflows.{IsGenuineOverflow}
 use Rattle.mk_model.specs.Reductions.{Reduct, IsNormal}
 use Rattle.mk_move.specs.Moves.{Weighed}
-use Rattle.mk_move.specs.MoveLists.{MoveList, vectors_of}
+use Rattle.mk_move.specs.MoveLists.{TheBasis, vectors_of}
 use Rattle.mk_reduce.specs.Works.{IsRest}
 use Rattle.mk_reduce.specs.declared.stop.Stop.{Stop}
 use Rattle.mk_reduce.specs.declared.stop.Stop.TheVariants.{Memory as StopMemory, Overflow as StopOverflow}
@@ -17,13 +17,13 @@ use Rattle.mk_core.specs.declared.completion.WorkFault.{WorkFault}
 use Rattle.mk_core.specs.declared.completion.WorkFault.TheVariants.{Memory, Overflow}
 
 -- a graded move that is a reduct of the pair's difference, and normal
-pub record IsNormalRest (basis : MoveList) (pair : Pair) (m : Weighed) : Type 0 where
+pub record IsNormalRest (basis : TheBasis) (pair : Pair) (m : Weighed) : Type 0 where
   pub reduct : Reduct (vectors_of basis.moves) (difference (vectors_of basis.moves) pair) m.entries
   pub rest : IsRest basis.grading m
   pub normal : IsNormal (vectors_of basis.moves) m.entries
 
 -- what is left of the pair's difference
-abbrev pub IsRemainder : MoveList → Pair → Option Weighed → Type 0
+abbrev pub IsRemainder : TheBasis → Pair → Option Weighed → Type 0
 IsRemainder basis pair None = Reduct (vectors_of basis.moves) (difference (vectors_of basis.moves) pair) (zeros (length basis.grading))
 IsRemainder basis pair (Some m) = IsNormalRest basis pair m
 

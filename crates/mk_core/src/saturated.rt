@@ -11,10 +11,10 @@ pub struct SaturatedBasis {
 }
 
 impl Model for SaturatedBasis {
-    ghost use Rattle.mk_move.specs.MoveLists.{MoveList};
+    ghost use Rattle.mk_move.specs.MoveLists.{TheBasis};
     ghost use Rattle.mk_core.specs.SaturatedBases.{IsSaturated};
 
-    ghost Value = { MoveList };
+    ghost Value = { TheBasis };
 
     ghost view = { λ s. s.basis };
 

@@ -7,7 +7,7 @@ use Rattle.mk_model.specs.Orders.{IsOriented, standard}
 use Rattle.mk_model.specs.Pairs.{EveryPairJoined}
 use Rattle.mk_move.specs.Gradings.{AreWeights}
 use Rattle.mk_move.specs.Moves.{Weighed}
-use Rattle.mk_move.specs.MoveLists.{MoveList, BelongsTo, vectors_of}
+use Rattle.mk_move.specs.MoveLists.{TheBasis, BelongsTo, vectors_of}
 use Rattle.mk_core.specs.SaturatedBases.{IsSaturated}
 use Rattle.mk_inter.proofs.SaturatedLists.{AreSaturated}
 
@@ -20,7 +20,7 @@ grading_of p w moves weights same each = record {
   rows_weight = All-map (λ row. weight w row ≡ pos 0) (λ (m : Weighed). m.entries) moves (All-weaker (BelongsTo p w) (λ m. weight w m.entries ≡ pos 0) (λ m h. h.graded.product) moves each);
 }
 
-pub saturated_list : (basis : MoveList) → IsSaturated basis → AreSaturated (length basis.grading) (vectors_of basis.moves) basis.grading (vectors_of basis.moves)
+pub saturated_list : (basis : TheBasis) → IsSaturated basis → AreSaturated (length basis.grading) (vectors_of basis.moves) basis.grading (vectors_of basis.moves)
 saturated_list basis s = record {
   oriented = record {
     grading = grading_of basis.priority basis.grading basis.moves s.kept.grading s.kept.columns s.kept.moves;

@@ -70,10 +70,10 @@ pub struct ReducedBasis {
 }
 
 impl Model for ReducedBasis {
-    ghost use Rattle.mk_move.specs.MoveLists.{MoveList};
+    ghost use Rattle.mk_move.specs.MoveLists.{TheBasis};
     ghost use Rattle.mk_inter.specs.Tails.{IsReducedList};
 
-    ghost Value = { MoveList };
+    ghost Value = { TheBasis };
 
     ghost view = { λ r. r.basis };
 

@@ -11,7 +11,7 @@ use Rattle.mk_model.specs.Events.{IsPlaced, with_entry, IsSettling}
 use Rattle.mk_model.specs.Events.Event.{Settles}
 use Rattle.mk_model.proofs.LegalEvents.{events_keep}
 use Rattle.mk_move.specs.Moves.{Weighed}
-use Rattle.mk_move.specs.MoveLists.{MoveList, BelongsTo, IsBasis, vectors_of}
+use Rattle.mk_move.specs.MoveLists.{TheBasis, BelongsTo, IsBasis, vectors_of}
 use Rattle.mk_ledger.specs.declared.ledger.Ledger.TheInside.{Inside}
 use Rattle.mk_ledger.specs.declared.journal.JournalEntry.{JournalEntry}
 use Rattle.mk_ledger.specs.PairFlags.{PairFlags, pair_number}
@@ -23,7 +23,7 @@ use Rattle.mk_ledger.proofs.Settlings.{entry_keeps_order, entry_keeps_flags, mov
 use Rattle.mk_ledger.proofs.SettledFields.{with_settled, settled_state, claim_of_basis}
 
 -- a basis with one move more that belongs to it
-pub one_more_move : (basis : MoveList) (m : Weighed) → IsBasis basis → BelongsTo basis.priority basis.grading m → length basis.moves < 65536 → IsBasis (with_move basis m)
+pub one_more_move : (basis : TheBasis) (m : Weighed) → IsBasis basis → BelongsTo basis.priority basis.grading m → length basis.moves < 65536 → IsBasis (with_move basis m)
 one_more_move basis m h belongs few = record {
   priority = h.priority;
   grading = h.grading;
@@ -123,14 +123,14 @@ pub record IsToBePlaced (ledger : TheLedger) (worker : ℕ) (m : Weighed) (held 
   pub claimed : claim_of ledger.state worker ≡ Some held
 
 -- the place, the entry, and the journal, the moves and the flags afterwards
-pub record AreWritten (fields : Inside) (worker : ℕ) (m : Weighed) (held : Pair) (place i j : ℕ) (entry : JournalEntry) (journal : List JournalEntry) (basis : MoveList) (grown settled : PairFlags) : Type 0 where
+pub record AreWritten (fields : Inside) (worker : ℕ) (m : Weighed) (held : Pair) (place i j : ℕ) (entry : JournalEntry) (journal : List JournalEntry) (basis : TheBasis) (grown settled : PairFlags) : Type 0 where
   pub at_end : place ≡ length fields.basis.moves
   pub entry_is : settle_of entry ≡ settle worker held (Place place)
   pub pushed : (journal ≡ fields.journal ++ entry ∷ []) × IsGrown fields.basis fields.settled m basis grown
   pub held_is : pair_of i j ≡ held
   pub marked : settled ≡ record { moves = grown.moves; flags = set grown.flags (pair_number i j) true }
 
-module _ (fields : Inside) (kept : AreFields fields) (ledger : TheLedger) (seen : ledger_of fields ≡ ledger) (worker : ℕ) (m : Weighed) (held : Pair) (given : IsToBePlaced ledger worker m held) (place i j : ℕ) (entry : JournalEntry) (journal : List JournalEntry) (basis : MoveList) (grown settled : PairFlags) (written : AreWritten fields worker m held place i j entry journal basis grown settled) where
+module _ (fields : Inside) (kept : AreFields fields) (ledger : TheLedger) (seen : ledger_of fields ≡ ledger) (worker : ℕ) (m : Weighed) (held : Pair) (given : IsToBePlaced ledger worker m held) (place i j : ℕ) (entry : JournalEntry) (journal : List JournalEntry) (basis : TheBasis) (grown settled : PairFlags) (written : AreWritten fields worker m held place i j entry journal basis grown settled) where
   abbrev changed_fields : Inside
   changed_fields = record fields { basis = basis; settled = settled; journal = journal; claims = with_item fields.claims worker None }
 

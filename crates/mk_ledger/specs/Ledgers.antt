@@ -2,12 +2,12 @@
 use Rattle.std.specs.Prelude.{◌≡◌, ◌≢◌, ◌⊎◌, ◌↔◌, ℕ, ◌<◌, ◌≤◌, Bool, true, false, List, length, get_or, None}
 use Rattle.mk_model.specs.CoreStates.{Pair, CoreState, IsPairOf, IsSettled, IsClaimed, IsFree}
 use Rattle.mk_model.specs.Legal.{IsLegal}
-use Rattle.mk_move.specs.MoveLists.{MoveList, IsBasis, vectors_of}
+use Rattle.mk_move.specs.MoveLists.{TheBasis, IsBasis, vectors_of}
 use Rattle.mk_ledger.specs.PairFlags.{pairs_of, pair_number}
 
 -- the moves with their weights, list and grading, and the core state over their vectors
 pub record TheLedger : Type 0 where
-  pub basis : MoveList
+  pub basis : TheBasis
   pub state : CoreState
 
 -- The basis's vectors are those of the state, which is legal, and the sizes are within their bounds.

@@ -7,7 +7,7 @@ use Rattle.mk_model.specs.CoreStates.Way.{Place}
 use Rattle.mk_model.specs.CoreStates.Halt.{Overflow, Full, Memory}
 use Rattle.mk_model.specs.Events.{IsSettling, IsFull, IsHalting}
 use Rattle.mk_move.specs.Moves.{Weighed}
-use Rattle.mk_move.specs.MoveLists.{MoveList}
+use Rattle.mk_move.specs.MoveLists.{TheBasis}
 use Rattle.mk_ledger.specs.declared.settles.PlaceFault.{PlaceFault}
 use Rattle.mk_ledger.specs.declared.settles.PlaceFault.TheVariants as fault
 use Rattle.mk_ledger.specs.PairFlags.{PairFlags, pairs_of}
@@ -43,7 +43,7 @@ NotFull Memory = Unit {0}
 
 -- ---- placing a move
 -- the moves with one more at the end
-abbrev pub with_move : MoveList → Weighed → MoveList
+abbrev pub with_move : TheBasis → Weighed → TheBasis
 with_move basis m = record basis { moves = basis.moves ++ m ∷ [] }
 
 -- The move is at the end of the basis, and the claim is settled by it.
@@ -83,6 +83,6 @@ pub record AreFlagsOf (moves : List Weighed) (settled : PairFlags) : Type 0 wher
   pub each : length settled.flags ≡ pairs_of settled.moves
 
 -- the move is at the end, and the flags of its pairs, which are clear, behind the others
-pub record IsGrown (basis : MoveList) (settled : PairFlags) (m : Weighed) (basis_after : MoveList) (settled_after : PairFlags) : Type 0 where
+pub record IsGrown (basis : TheBasis) (settled : PairFlags) (m : Weighed) (basis_after : TheBasis) (settled_after : PairFlags) : Type 0 where
   pub moves : basis_after ≡ with_move basis m
   pub flags : settled_after ≡ record { moves = settled.moves + 1; flags = settled.flags ++ replicate settled.moves false }

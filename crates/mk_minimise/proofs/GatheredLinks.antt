@@ -17,7 +17,7 @@ use Rattle.mk_model.proofs.Divisors.{lcm-comm}
 use Rattle.mk_model.proofs.Confluence.{JoinedBelow-same, JoinedBelow-swap}
 use Rattle.mk_model.proofs.Reducts.{joined_below_weaker, joined_by_disjoint, reduct_weaker}
 use Rattle.mk_move.specs.Moves.{Weighed}
-use Rattle.mk_move.specs.MoveLists.{MoveList, BelongsTo, vectors_of}
+use Rattle.mk_move.specs.MoveLists.{TheBasis, BelongsTo, vectors_of}
 use Rattle.mk_move.specs.declared.side.Side.TheVariants.{Plus, Minus}
 use Rattle.mk_reduce.proofs.Beginnings.{length-vectors_of}
 use Rattle.mk_inter.specs.Tails.{IsReducedList}
@@ -32,17 +32,17 @@ use Rattle.mk_minimise.proofs.LinkChains.{something, steps_reduce, chain, links_
 use Rattle.mk_minimise.proofs.LowerFronts.{list_grading, member_at, lower_at, lower_has, lower_place, lower_part, overlap_is_lower, pair_weighs}
 
 -- the pair's moves are joined below, by lower moves and links
-abbrev pub PairJoined : MoveList → MoveList → List Weighed → Overlap → Type 0
+abbrev pub PairJoined : TheBasis → TheBasis → List Weighed → Overlap → Type 0
 PairJoined basis lower links pair =
     JoinedBelow (length basis.grading) (standard (length basis.grading)) (vectors_of lower.moves ++ vectors_of links) (move_at (vectors_of basis.moves) pair.first) (move_at (vectors_of basis.moves) pair.second)
 
 -- links of the weight that follows the lower moves, with these pairs joined below
-pub record AreGathered (basis lower : MoveList) (pairs : List Overlap) (links : List Weighed) : Type 0 where
+pub record AreGathered (basis lower : TheBasis) (pairs : List Overlap) (links : List Weighed) : Type 0 where
   pub belong : All (BelongsTo basis.priority basis.grading) links
   pub linked : AreLinks (length basis.grading) (vectors_of basis.moves) (vectors_of lower.moves) basis.grading (weight_at basis (length lower.moves)) (vectors_of links)
   pub joined : All (PairJoined basis lower links) pairs
 
-module _ (basis : MoveList) (h : IsReducedList basis) (lower : MoveList) (front : IsFront basis lower) (more : length lower.moves < length basis.moves) where
+module _ (basis : TheBasis) (h : IsReducedList basis) (lower : TheBasis) (front : IsFront basis lower) (more : length lower.moves < length basis.moves) where
   abbrev n : ℕ
   n = length basis.grading
 

@@ -17,7 +17,7 @@ use Rattle.mk_model.proofs.Divisors.{IsPoint-lcm, Divides-lcm_first, Divides-lcm
 use Rattle.mk_model.proofs.DivisorWeights.{divisor_cases}
 use Rattle.mk_model.proofs.ReducedLaws.{reduced_ends, member_reduced, member_move}
 use Rattle.mk_move.specs.Moves.{Weighed}
-use Rattle.mk_move.specs.MoveLists.{MoveList, BelongsTo, IsBasis, vectors_of}
+use Rattle.mk_move.specs.MoveLists.{TheBasis, BelongsTo, IsBasis, vectors_of}
 use Rattle.mk_reduce.specs.Leads.{leads_of}
 use Rattle.mk_reduce.proofs.Beginnings.{length-vectors_of}
 use Rattle.mk_inter.specs.Tails.{IsReducedList}
@@ -32,27 +32,27 @@ use Rattle.mk_minimise.proofs.LowerMoves.{lead_not_least}
 use Rattle.mk_minimise.proofs.RunsOfWeight.{weights_rise}
 
 -- ---- the moves put one after another
-pub record IsRaising (basis : MoveList) (place : ℕ) (moves : MoveList) (leads : List (List ℤ)) : Type 0 where
+pub record IsRaising (basis : TheBasis) (place : ℕ) (moves : TheBasis) (leads : List (List ℤ)) : Type 0 where
   pub moves_are : moves.moves ≡ take place basis.moves
   pub priority : moves.priority ≡ basis.priority
   pub grading : moves.grading ≡ basis.grading
   pub leads_are : leads ≡ leads_of moves.moves
 
-pub raising_begins : (basis lower : MoveList) (leads : List (List ℤ)) → IsFront basis lower → leads ≡ leads_of lower.moves → IsRaising basis (length lower.moves) lower leads
+pub raising_begins : (basis lower : TheBasis) (leads : List (List ℤ)) → IsFront basis lower → leads ≡ leads_of lower.moves → IsRaising basis (length lower.moves) lower leads
 raising_begins basis lower leads front e = record { moves_are = front.moves; priority = front.priority; grading = front.grading; leads_are = e }
 
-module _ (basis : MoveList) (place : ℕ) (moves : MoveList) (leads : List (List ℤ)) (raising : IsRaising basis place moves leads) where
-  pub raising_more : (m : Weighed) (after : MoveList) (leads_after : List (List ℤ)) → slice_get basis.moves place ≡ Some m → after ≡ record moves { moves = moves.moves ++ m ∷ [] } → leads_after ≡ leads ++ lead m.entries ∷ [] →
+module _ (basis : TheBasis) (place : ℕ) (moves : TheBasis) (leads : List (List ℤ)) (raising : IsRaising basis place moves leads) where
+  pub raising_more : (m : Weighed) (after : TheBasis) (leads_after : List (List ℤ)) → slice_get basis.moves place ≡ Some m → after ≡ record moves { moves = moves.moves ++ m ∷ [] } → leads_after ≡ leads ++ lead m.entries ∷ [] →
       IsRaising basis (place + 1) after leads_after
   raising_more m after leads_after at e f = record {
     moves_are = now ∙ ap (λ xs. xs ++ m ∷ []) raising.moves_are ∙ sym more;
-    priority = ap (λ (b : MoveList). b.priority) e ∙ raising.priority;
-    grading = ap (λ (b : MoveList). b.grading) e ∙ raising.grading;
+    priority = ap (λ (b : TheBasis). b.priority) e ∙ raising.priority;
+    grading = ap (λ (b : TheBasis). b.grading) e ∙ raising.grading;
     leads_are = f ∙ ap (λ xs. xs ++ lead m.entries ∷ []) raising.leads_are ∙ sym (map-append (λ (m : Weighed). lead m.entries) moves.moves (m ∷ [])) ∙ ap leads_of (sym now);
   }
     where
       now : after.moves ≡ moves.moves ++ m ∷ []
-      now = ap (λ (b : MoveList). b.moves) e
+      now = ap (λ (b : TheBasis). b.moves) e
 
       more : take (place + 1) basis.moves ≡ take place basis.moves ++ m ∷ []
       more = take_more basis.moves place m (slice_get_within basis.moves place m at) ∙ ap (λ x. take place basis.moves ++ x ∷ []) (get_or_from_slice_get basis.moves place m m at)
@@ -80,14 +80,14 @@ module _ (basis : MoveList) (place : ℕ) (moves : MoveList) (leads : List (List
       }
 
 -- ---- the lower moves
-module _ (basis : MoveList) (h : IsReducedList basis) where
+module _ (basis : TheBasis) (h : IsReducedList basis) where
   pub list_grading : IsGrading (length basis.grading) (vectors_of basis.moves) basis.grading
   list_grading = grading_of basis.priority basis.grading basis.moves h.kept.grading h.kept.columns h.kept.moves
 
   pub member_at : (k : ℕ) → k < length basis.moves → Contains (vectors_of basis.moves) (move_at (vectors_of basis.moves) k)
   member_at k l = Contains-get_or (vectors_of basis.moves) k [] (omega (arith, l, length-vectors_of basis.moves))
 
-  module _ (lower : MoveList) (front : IsFront basis lower) (more : length lower.moves < length basis.moves) where
+  module _ (lower : TheBasis) (front : IsFront basis lower) (more : length lower.moves < length basis.moves) where
     abbrev count : ℕ
     count = length lower.moves
 

@@ -7,16 +7,11 @@ use Rattle.mk_model.specs.Pairs.{AreDisjoint}
 use Rattle.mk_model.specs.Reductions.{lcm}
 use Rattle.mk_model.specs.Vectors.{weight}
 use Rattle.mk_move.specs.Moves.{Weighed}
-use Rattle.mk_move.specs.MoveLists.{MoveList, vectors_of}
+use Rattle.mk_move.specs.MoveLists.{TheBasis, vectors_of}
 use Rattle.mk_reduce.specs.declared.stop.Stop.{Stop}
 use Rattle.mk_reduce.specs.declared.stop.Stop.TheVariants.{Memory as StopMemory, Overflow as StopOverflow}
 use Rattle.mk_minimise.specs.declared.minimal.MinimiseFault.{MinimiseFault}
 use Rattle.mk_minimise.specs.declared.minimal.MinimiseFault.TheVariants.{Memory, Overflow}
-
--- a list of moves of so many columns
-pub record TheList : Type 0 where
-  pub columns : ℕ
-  pub moves : List Weighed
 
 abbrev pub operand_of : Option Weighed → Option (List ℤ)
 operand_of None = None
@@ -41,7 +36,7 @@ fault_for pair operand StopMemory = Memory
 fault_for pair operand (StopOverflow by at) = Overflow pair.first pair.second by operand at
 
 -- An entry left the range at a pair of the list. No cause is given for want of memory.
-abbrev pub IsMinimiseFault : MoveList → MinimiseFault → Type 0
+abbrev pub IsMinimiseFault : TheBasis → MinimiseFault → Type 0
 IsMinimiseFault basis Memory = Unit {0}
 IsMinimiseFault basis (Overflow i j by operand at) =
     IsPairOfDegree basis.grading (vectors_of basis.moves) i j

@@ -8,44 +8,44 @@ use Rattle.mk_model.specs.Reductions.{Reduct, IsNormal}
 use Rattle.mk_model.specs.Vectors.{zeros, weight}
 use Rattle.mk_model.specs.Walks.{Joined}
 use Rattle.mk_move.specs.Moves.{Weighed}
-use Rattle.mk_move.specs.MoveLists.{MoveList, vectors_of}
+use Rattle.mk_move.specs.MoveLists.{TheBasis, vectors_of}
 use Rattle.mk_reduce.specs.Works.{IsRest}
 
 -- the weight of the lead of a place
-abbrev pub weight_at : MoveList → ℕ → ℤ
+abbrev pub weight_at : TheBasis → ℕ → ℤ
 weight_at basis k = weight basis.grading (lead (move_at (vectors_of basis.moves) k))
 
 -- each move before the place is lighter than each other move
-abbrev pub IsCut : MoveList → ℕ → Type 0
+abbrev pub IsCut : TheBasis → ℕ → Type 0
 IsCut basis count = (i j : ℕ) → i < count → count ≤ j → j < length basis.moves → weight_at basis i <ℤ weight_at basis j
 
 -- the moves before a place at which the weight rises, with the list and the grading of the basis
-pub record IsFront (basis lower : MoveList) : Type 0 where
+pub record IsFront (basis lower : TheBasis) : Type 0 where
   pub moves : lower.moves ≡ take (length lower.moves) basis.moves
   pub priority : lower.priority ≡ basis.priority
   pub grading : lower.grading ≡ basis.grading
   pub cut : IsCut basis (length lower.moves)
 
 -- the place is one of the basis, with a lead as heavy as that of the start
-pub record IsAsHeavy (basis : MoveList) (start place : ℕ) : Type 0 where
+pub record IsAsHeavy (basis : TheBasis) (start place : ℕ) : Type 0 where
   pub within : place < length basis.moves
   pub same : weight_at basis place ≡ weight_at basis start
 
 -- the places from start to end, and no other behind the start, have this weight
-pub record IsWeightRun (basis : MoveList) (start end : ℕ) : Type 0 where
+pub record IsWeightRun (basis : TheBasis) (start end : ℕ) : Type 0 where
   pub some : start < end
   pub within : end ≤ length basis.moves
   pub same : (k : ℕ) → start ≤ k → k < end → weight_at basis k ≡ weight_at basis start
   pub cut : IsCut basis end
 
 -- a graded move that is a reduct of the pair's difference, and normal
-pub record IsNormalRest (basis : MoveList) (pair : Pair) (m : Weighed) : Type 0 where
+pub record IsNormalRest (basis : TheBasis) (pair : Pair) (m : Weighed) : Type 0 where
   pub reduct : Reduct (vectors_of basis.moves) (difference (vectors_of basis.moves) pair) m.entries
   pub rest : IsRest basis.grading m
   pub normal : IsNormal (vectors_of basis.moves) m.entries
 
 -- what is left of the pair's difference
-abbrev pub IsRemainder : MoveList → Pair → Option Weighed → Type 0
+abbrev pub IsRemainder : TheBasis → Pair → Option Weighed → Type 0
 IsRemainder basis pair None = Reduct (vectors_of basis.moves) (difference (vectors_of basis.moves) pair) (zeros (length basis.grading))
 IsRemainder basis pair (Some m) = IsNormalRest basis pair m
 

@@ -13,10 +13,10 @@ pub(crate) struct Lower {
 
 impl Model for Lower {
     ghost use Rattle.std.specs.Prelude.{◌≡◌};
-    ghost use Rattle.mk_move.specs.MoveLists.{MoveList};
+    ghost use Rattle.mk_move.specs.MoveLists.{TheBasis};
     ghost use Rattle.mk_reduce.specs.Leads.{leads_of};
 
-    ghost Value = { MoveList };
+    ghost Value = { TheBasis };
 
     ghost view = { λ l. l.basis };
 
@@ -25,7 +25,7 @@ impl Model for Lower {
 
 impl Lower {
     ghost use Rattle.std.specs.Prelude.{◌≡◌, ◌≤◌, ◌<◌, [], length, take, IfOk};
-    ghost use Rattle.mk_move.specs.MoveLists.{MoveList};
+    ghost use Rattle.mk_move.specs.MoveLists.{TheBasis};
     ghost use Rattle.mk_reduce.specs.Leads.{leads_of};
     ghost use Rattle.mk_minimise.specs.Stages.{IsFront, IsCut};
 

@@ -13,7 +13,7 @@ use crate::overlaps::{Overlap, overlaps_of};
 use crate::stages::{choose, end_of_weight, links_of};
 use mk_inter::ReducedBasis;
 use mk_model::NoMemory;
-use mk_move::{Basis, Grading, Move, OverflowAt};
+use mk_move::{Basis, Grading, Move, MoveList, OverflowAt};
 use std::alloc::{AllocError, AllocFailed, Global};
 use std::marker::Model;
 
@@ -74,7 +74,7 @@ pub struct MinimalList {
 
 impl Model for MinimalList {
     ghost use Rattle.std.specs.Prelude.{◌≡◌, ◌<◌, ◌^◌, length, All};
-    ghost use Rattle.mk_minimise.specs.Minimal.{TheList};
+    ghost use Rattle.mk_move.specs.MoveLists.{TheList};
 
     ghost Value = { TheList };
 
@@ -83,26 +83,18 @@ impl Model for MinimalList {
     ghost invariant = { λ l. (length l.moves.items < 2 ^ 32) × All (λ m. length m.entries ≡ l.columns) l.moves.items };
 }
 
-impl MinimalList {
-    /// How many columns its moves have.
-    pub fn columns(&self) -> u32
-        ensures { result ≡ self.now.columns }
-    {
+impl MoveList for MinimalList {
+    ghost list = { λ l. l };
+
+    fn columns(&self) -> u32 {
         self.columns
     }
 
-    /// How many moves it has.
-    pub fn len(&self) -> u32
-        ensures { result ≡ length self.now.moves }
-    {
+    fn len(&self) -> u32 {
         self.moves.len() as u32
     }
 
-    /// The move of a place.
-    pub fn move_at(&self, k: u32) -> &Move
-        requires { k < length self.now.moves }
-        ensures { slice_get self.now.moves k ≡ Some result.now }
-    {
+    fn move_at(&self, k: u32) -> &Move {
         &self.moves[k as usize]
     }
 }

@@ -1,12 +1,17 @@
--- A list of moves with the grading and the priority list that they belong to.
+-- Lists of moves: by themselves, and with the grading and the priority list that they belong to.
 use Rattle.std.specs.Prelude.{◌≡◌, ℕ, ◌<◌, ◌^◌, List, length, map, All, ℤ}
 use Rattle.mk_model.specs.Orders.{IsOriented}
 use Rattle.mk_move.specs.Gradings.{AreWeights}
 use Rattle.mk_move.specs.Moves.{Weighed, IsGraded}
 use Rattle.mk_move.specs.Priorities.{IsPriority}
 
+-- a list of moves of so many columns
+pub record TheList : Type 0 where
+  pub columns : ℕ
+  pub moves : List Weighed
+
 -- the moves in their order, the priority list and the grading
-pub record MoveList : Type 0 where
+pub record TheBasis : Type 0 where
   pub moves : List Weighed
   pub priority : List ℕ
   pub grading : List ℤ
@@ -18,7 +23,7 @@ pub record BelongsTo (p : List ℕ) (w : List ℤ) (m : Weighed) : Type 0 where
   pub oriented : IsOriented p m.entries
 
 -- fewer than 2^32 moves, each of which belongs to the list and the grading
-pub record IsBasis (basis : MoveList) : Type 0 where
+pub record IsBasis (basis : TheBasis) : Type 0 where
   pub priority : IsPriority basis.priority
   pub grading : AreWeights basis.grading
   pub columns : length basis.priority ≡ length basis.grading

@@ -1,11 +1,12 @@
 //! Moves of a lattice, their gradings, the priority lists that orient them, and what a completion does with them: steps,
-//! divisions and comparisons of leads, bases, and the trait of those that find a lead.
+//! divisions and comparisons of leads, bases, and the traits of those that find a lead and of lists of moves.
 #![tactic(auto)]
 
 mod basis;
 mod finder;
 mod grading;
 mod leads;
+mod list;
 mod masks;
 mod moves;
 mod orders;
@@ -17,6 +18,7 @@ pub use basis::{Basis, PushFault};
 pub use finder::Finder;
 pub use grading::{Grading, GradingFault};
 pub use leads::{coprime_leads, lead_divides, times_dividing};
+pub use list::MoveList;
 pub use moves::{Move, MoveFault};
 pub use orders::{compare_leads, move_order};
 pub use priority::Priority;

@@ -9,7 +9,7 @@ use Rattle.mk_model.proofs.VectorAlgebra.{weight-parts, weight-zeros, entry_with
 use Rattle.mk_model.proofs.OrderLaws.{IsBelow-decided}
 use Rattle.mk_move.specs.Gradings.{AreWeights}
 use Rattle.mk_move.specs.Moves.{Weighed, ReadsRow}
-use Rattle.mk_move.specs.MoveLists.{MoveList, BelongsTo, IsBasis}
+use Rattle.mk_move.specs.MoveLists.{TheBasis, BelongsTo, IsBasis}
 use Rattle.mk_reduce.proofs.Heights.{IsLevel}
 
 -- weights are a grading of any columns that are as many
@@ -21,7 +21,7 @@ grading_of w h = record {
   rows_weight = All-nil (λ row. weight w row ≡ pos 0);
 }
 
-module _ (basis : MoveList) (h : IsBasis basis) (m : Weighed) (b : BelongsTo basis.priority basis.grading m) where
+module _ (basis : TheBasis) (h : IsBasis basis) (m : Weighed) (b : BelongsTo basis.priority basis.grading m) where
   pub columns_of : length m.entries ≡ length basis.grading
   columns_of = b.columns ∙ h.columns
 
@@ -41,7 +41,7 @@ module _ (basis : MoveList) (h : IsBasis basis) (m : Weighed) (b : BelongsTo bas
       omega (arith, ints, heavy, weight-parts w m.entries, b.graded.product, s.nonnegative c)
 
 -- the move of a row belongs to the basis
-pub row_belongs : (basis : MoveList) → IsBasis basis → (row : List ℤ) (m : Weighed) → length row ≡ length basis.grading → ReadsRow row basis.grading basis.priority (Ok (Some m)) → BelongsTo basis.priority basis.grading m
+pub row_belongs : (basis : TheBasis) → IsBasis basis → (row : List ℤ) (m : Weighed) → length row ≡ length basis.grading → ReadsRow row basis.grading basis.priority (Ok (Some m)) → BelongsTo basis.priority basis.grading m
 row_belongs basis h row m l (product, r) = record {
   columns = columns r.entries.either ∙ l ∙ sym h.columns;
   graded = record { product = weighs r.entries.either; weight = r.weight };

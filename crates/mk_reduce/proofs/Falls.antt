@@ -4,7 +4,7 @@ use Rattle.std.proofs.Math.ListN.{get_or-map}
 use Rattle.mk_model.specs.CoreStates.{move_at}
 use Rattle.mk_model.specs.Overflows.{IsTimesDividing}
 use Rattle.mk_move.specs.Moves.{Weighed}
-use Rattle.mk_move.specs.MoveLists.{MoveList, IsBasis, vectors_of}
+use Rattle.mk_move.specs.MoveLists.{TheBasis, IsBasis, vectors_of}
 use Rattle.mk_reduce.specs.declared.step.Step.{Step}
 use Rattle.mk_reduce.specs.Works.{TheWork, IsRest, IsStep, after_step, IsLeftAfter, IsStepMore}
 use Rattle.mk_reduce.proofs.Beginnings.{length-vectors_of}
@@ -12,11 +12,11 @@ use Rattle.mk_reduce.proofs.Heights.{height, step_lowers, IsLevel}
 use Rattle.mk_reduce.proofs.BasisMoves.{grading_of, level_of}
 
 -- how much is left to do: nothing where nothing is left
-abbrev pub to_do : MoveList → Option Weighed → ℕ
+abbrev pub to_do : TheBasis → Option Weighed → ℕ
 to_do basis None = 0
 to_do basis (Some m) = suc (height basis.grading basis.priority m.entries)
 
-module _ (basis : MoveList) (h : IsBasis basis) where
+module _ (basis : TheBasis) (h : IsBasis basis) where
   abbrev no_move : Weighed
   no_move = record { entries = []; weight = pos 0 }
 

@@ -11,7 +11,7 @@ use Rattle.mk_model.proofs.Integers.{neg_ℤ-*ℤ}
 use Rattle.mk_model.proofs.VectorAlgebra.{lengths, entries, same_vectors}
 use Rattle.mk_model.proofs.Confluence.{reaches_append}
 use Rattle.mk_move.specs.Moves.{Weighed}
-use Rattle.mk_move.specs.MoveLists.{MoveList, vectors_of}
+use Rattle.mk_move.specs.MoveLists.{TheBasis, vectors_of}
 use Rattle.mk_move.specs.Steps.{minus_times, TakesOff, IsStepFault}
 use Rattle.mk_move.specs.declared.steps.StepFault.{StepFault}
 use Rattle.mk_reduce.specs.declared.step.Step.{Step}
@@ -57,7 +57,7 @@ places_within moves r (first ∷ trace) last (g, l) = All-cons (λ (step : Step)
 abbrev pub with_front : ℕ → TheWork → TheWork
 with_front front work = record work { front = front }
 
-module _ (basis : MoveList) (work : TheWork) (h : WorkOf work basis) where
+module _ (basis : TheBasis) (work : TheWork) (h : WorkOf work basis) where
   -- all places of the trace are those of moves
   pub work_at_end : WorkOf (with_front (length basis.moves) work) basis
   work_at_end = record {
@@ -112,7 +112,7 @@ module _ (basis : MoveList) (work : TheWork) (h : WorkOf work basis) where
       within = step_within d.step last taken e
 
 -- what is taken off, and why it isn't
-pub left_or_not : (basis : MoveList) (from : Weighed) (step : Step) (v : List ℤ) (result : Result (Option Weighed) StepFault) → IsRest basis.grading from → IsStep (vectors_of basis.moves) from.entries step →
+pub left_or_not : (basis : TheBasis) (from : Weighed) (step : Step) (v : List ℤ) (result : Result (Option Weighed) StepFault) → IsRest basis.grading from → IsStep (vectors_of basis.moves) from.entries step →
     move_at (vectors_of basis.moves) step.place ≡ v → length v ≡ length basis.grading → TakesOff from.entries step.times v basis.grading result →
     MatchResult result (IsLeftAfter basis from step) (IsStepFault from.entries (move_at (vectors_of basis.moves) step.place) step.times)
 left_or_not basis from step v (Ok left) r d e l t = record {

@@ -17,7 +17,7 @@ use Rattle.mk_model.specs.Orders.{lead}
 use Rattle.mk_model.specs.Reductions.{Divides, IsNormal, IsIrreducible}
 use Rattle.mk_model.specs.Overflows.{IsTimesDividing}
 use Rattle.mk_move.specs.Moves.{Weighed, IsKept}
-use Rattle.mk_move.specs.MoveLists.{MoveList, IsBasis, BelongsTo, vectors_of}
+use Rattle.mk_move.specs.MoveLists.{TheBasis, IsBasis, BelongsTo, vectors_of}
 use Rattle.mk_move.specs.Sides.{part_of, IsMostTimes, DividesAt}
 use Rattle.mk_move.proofs.Readings.{entry_read}
 use Rattle.mk_move.specs.declared.side.Side.{Side}
@@ -77,7 +77,7 @@ minus_step moves r place m side times e l h d =
     subst (λ (z : ℤ). IsStep (vectors_of moves) r (record { times = z; place = place })) (ap (λ s. signed s times) e ∙ sym read) (step_on moves r place m side times h d)
 
 -- ---- where there is none
-pub lead_columns : (basis : MoveList) (r : List ℤ) → IsBasis basis → length r ≡ length basis.grading → All (λ (x : List ℤ). length x ≡ length r) (leads_of basis.moves)
+pub lead_columns : (basis : TheBasis) (r : List ℤ) → IsBasis basis → length r ≡ length basis.grading → All (λ (x : List ℤ). length x ≡ length r) (leads_of basis.moves)
 lead_columns basis r h l =
     All-map (λ (x : List ℤ). length x ≡ length r) (λ (m : Weighed). lead m.entries) basis.moves
     (All-weaker (BelongsTo basis.priority basis.grading) (λ (m : Weighed). length (lead m.entries) ≡ length r) (λ m b. length-positive_part m.entries ∙ b.columns ∙ h.columns ∙ sym l) basis.moves h.moves)

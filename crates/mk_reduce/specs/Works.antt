@@ -6,7 +6,7 @@ use Rattle.mk_model.specs.CoreStates.{Pair, move_at, difference, IsPairOf}
 use Rattle.mk_model.specs.Overflows.{IsTimesDividing}
 use Rattle.mk_model.specs.Reductions.{Reduct, IsNormal}
 use Rattle.mk_move.specs.Moves.{Weighed, IsGraded}
-use Rattle.mk_move.specs.MoveLists.{MoveList, vectors_of}
+use Rattle.mk_move.specs.MoveLists.{TheBasis, vectors_of}
 use Rattle.mk_move.specs.Steps.{minus_times}
 use Rattle.mk_reduce.specs.declared.step.Step.{Step}
 
@@ -42,13 +42,13 @@ pub record IsRest (w : List ℤ) (m : Weighed) : Type 0 where
   pub graded : IsGraded w m
 
 -- what a step leaves of a move, and none for zero
-pub record IsLeftAfter (basis : MoveList) (from : Weighed) (step : Step) (left : Option Weighed) : Type 0 where
+pub record IsLeftAfter (basis : TheBasis) (from : Weighed) (step : Step) (left : Option Weighed) : Type 0 where
   pub taken : IsStep (vectors_of basis.moves) from.entries step
   pub entries : rest_of (length basis.grading) left ≡ after_step (vectors_of basis.moves) from.entries step
   pub graded : IfSome left (IsRest basis.grading)
 
 -- One step more: what it leaves takes the place of what was left, and it ends the trace.
-pub record IsStepMore (basis : MoveList) (before after : TheWork) : Type 0 where
+pub record IsStepMore (basis : TheBasis) (before after : TheWork) : Type 0 where
   pub from : Weighed
   pub step : Step
   pub left : Option Weighed
@@ -57,7 +57,7 @@ pub record IsStepMore (basis : MoveList) (before after : TheWork) : Type 0 where
   pub changed : after ≡ record before { remainder = left; trace = before.trace ++ step ∷ [] }
 
 -- Work on a pair of the basis. Each place of the trace is below the front, unless the front is 0 and something is left.
-pub record WorkOf (work : TheWork) (basis : MoveList) : Type 0 where
+pub record WorkOf (work : TheWork) (basis : TheBasis) : Type 0 where
   pub pair : IsPairOf (vectors_of basis.moves) work.pair
   pub front : work.front ≤ length basis.moves
   pub steps : LeadsTo (vectors_of basis.moves) (difference (vectors_of basis.moves) work.pair) work.trace (rest_of (length basis.grading) work.remainder)
@@ -71,7 +71,7 @@ IsReduced moves None = Unit {0}
 IsReduced moves (Some m) = IsNormal moves m.entries
 
 -- one step more, or none: then it is unchanged, and nothing is left or what is left is normal
-abbrev pub Advances : MoveList → TheWork → TheWork → Bool → Type 0
+abbrev pub Advances : TheBasis → TheWork → TheWork → Bool → Type 0
 Advances basis before after true = IsStepMore basis before after
 Advances basis before after false = (after ≡ before) × IsReduced (vectors_of basis.moves) before.remainder
 

@@ -3,7 +3,7 @@ use Rattle.std.proofs.Common.{◌≡◌, List, Some, Result, Err, IsErrAnd, ap, 
 use Rattle.mk_model.specs.ReducedBases.{IsReducedBasis}
 use Rattle.mk_model.specs.Tables.{Grid, rows_of}
 use Rattle.mk_model.proofs.ReducedLaws.{reduced_is_markov}
-use Rattle.mk_move.specs.MoveLists.{MoveList, vectors_of}
+use Rattle.mk_move.specs.MoveLists.{TheBasis, vectors_of}
 use Rattle.mk_solve.specs.Books.{Book, empty_book, settled_of}
 use Rattle.mk_solve.specs.Solutions.{IsDone}
 use Rattle.mk_run.specs.declared.fault.RunFault.{RunFault}
@@ -13,12 +13,12 @@ use Rattle.mk_run.specs.Stages.{IsBookOf, ChoosesGrading}
 use Rattle.mk_run.proofs.Loading.{the_error}
 
 -- a book that is done keeps the answer
-pub answer_of_done : (grid : Grid) (w : List ℤ) (book : Book) (basis : MoveList) → HasGrading grid w → book.reduced ≡ Some basis → IsDone (rows_of grid) w book → IsAnswerOf grid book (vectors_of basis.moves)
+pub answer_of_done : (grid : Grid) (w : List ℤ) (book : Book) (basis : TheBasis) → HasGrading grid w → book.reduced ≡ Some basis → IsDone (rows_of grid) w book → IsAnswerOf grid book (vectors_of basis.moves)
 answer_of_done grid w book basis graded made done = record {
   grading = w;
   graded = graded;
   done = done;
-  kept = ap (λ (b : MoveList). vectors_of b.moves) same;
+  kept = ap (λ (b : TheBasis). vectors_of b.moves) same;
   reduced = reduced;
   markov = reduced_is_markov graded.positive reduced;
 }
@@ -28,7 +28,7 @@ answer_of_done grid w book basis graded made done = record {
 
     reduced : IsReducedBasis grid.columns (rows_of grid) w (vectors_of basis.moves)
     reduced =
-        subst (λ (b : MoveList). IsReducedBasis grid.columns (rows_of grid) w (vectors_of b.moves)) (sym same)
+        subst (λ (b : TheBasis). IsReducedBasis grid.columns (rows_of grid) w (vectors_of b.moves)) (sym same)
         (subst (λ n. IsReducedBasis n (rows_of grid) w (vectors_of done.basis.moves)) graded.positive.columns done.reduced)
 
 -- a book that is empty still, where a run didn't stop

@@ -11,7 +11,7 @@ use Rattle.mk_model.specs.Orders.{standard}
 use Rattle.mk_model.specs.Pairs.{EveryPairJoined}
 use Rattle.mk_model.specs.Saturation.{without_column, ConnectedUpTo, drop_redundant, NoneRedundant}
 use Rattle.mk_model.proofs.Dropping.{drop_redundant_apart}
-use Rattle.mk_move.specs.MoveLists.{MoveList, IsBasis, vectors_of}
+use Rattle.mk_move.specs.MoveLists.{TheBasis, IsBasis, vectors_of}
 use Rattle.mk_core.specs.Phases.{state_of}
 use Rattle.mk_core.specs.SaturatedBases.{IsSaturated}
 use Rattle.mk_core.specs.declared.phase.Phase.{Phase}
@@ -51,7 +51,7 @@ written_back items new now column len l same e = ap (take len) (ap (λ rest. new
     none = drop_all (length new) items (omega (arith, size))
 
 -- ---- a completed phase that begins with the moves of a basis
-module _ (before : MoveList) (p : List ℕ) (phase : Phase) (after : MoveList) (kept : IsBasis before) (h : IsPhaseOf before p phase) (needed : IsNeeded phase after) where
+module _ (before : TheBasis) (p : List ℕ) (phase : Phase) (after : TheBasis) (kept : IsBasis before) (h : IsPhaseOf before p phase) (needed : IsNeeded phase after) where
   abbrev n : ℕ
   n = length before.grading
 
@@ -86,7 +86,7 @@ module _ (before : MoveList) (p : List ℕ) (phase : Phase) (after : MoveList) (
   leaves_few = omega (arith, length-vectors after.moves, ap length needed.moves, drop_redundant_short state.basis, legal.basis_within)
 
 -- the column that the list names first is saturated
-pub column_taken : (saturation : TheSaturation) (column : ℕ) (p : List ℕ) (phase : Phase) (after : MoveList) (left : List Bool) → IsSaturation saturation → IsPhaseOf saturation.basis (column ∷ p) phase → IsNeeded phase after → left ≡ set saturation.left column false → IsSaturation (record { basis = after; left = left })
+pub column_taken : (saturation : TheSaturation) (column : ℕ) (p : List ℕ) (phase : Phase) (after : TheBasis) (left : List Bool) → IsSaturation saturation → IsPhaseOf saturation.basis (column ∷ p) phase → IsNeeded phase after → left ≡ set saturation.left column false → IsSaturation (record { basis = after; left = left })
 column_taken saturation column p phase after left s h needed e = record {
   kept = needed.kept;
   columns = ap length e ∙ length-set saturation.left column false ∙ s.columns ∙ sym (ap length (same_grading before list phase after s.kept h needed));
@@ -94,7 +94,7 @@ column_taken saturation column p phase after left s h needed e = record {
   connected = after_has before list phase after s.kept h needed (λ n moves. ConnectedUpTo n moves (is_left left) moves) connected;
 }
   where
-    before : MoveList
+    before : TheBasis
     before = saturation.basis
 
     list : List ℕ
@@ -116,7 +116,7 @@ column_taken saturation column p phase after left s h needed e = record {
         (λ c l f. without_left saturation.left column c (ap (λ (flags : List Bool). is_left flags c) (sym e) ∙ f)) without
 
 -- along the standard list, with no column left, it leaves the saturated basis
-pub saturated : (saturation : TheSaturation) (phase : Phase) (after : MoveList) → IsSaturation saturation → NoneLeft saturation.left → IsPhaseOf saturation.basis (standard (length saturation.basis.grading)) phase → IsNeeded phase after → IsSaturated after
+pub saturated : (saturation : TheSaturation) (phase : Phase) (after : TheBasis) → IsSaturation saturation → NoneLeft saturation.left → IsPhaseOf saturation.basis (standard (length saturation.basis.grading)) phase → IsNeeded phase after → IsSaturated after
 saturated saturation phase after s none h needed = record {
   kept = needed.kept;
   standard_list = needed.priority ∙ h.priority ∙ ap (λ (w : List ℤ). standard (length w)) (sym (same_grading before list phase after s.kept h needed));
@@ -127,7 +127,7 @@ saturated saturation phase after s none h needed = record {
       (kept_markov n (vectors_of before.moves) before.grading list (basis_graded before s.kept) state of_state needed.completed.ended h.begun (is_left saturation.left) none s.connected);
 }
   where
-    before : MoveList
+    before : TheBasis
     before = saturation.basis
 
     list : List ℕ

@@ -6,7 +6,7 @@ use Rattle.std.proofs.lemmas.List.{get_or-replicate, length-replicate, get_or-se
 use Rattle.mk_model.specs.Lattices.{nonzero_rows, SameLattice}
 use Rattle.mk_model.specs.Orders.{standard}
 use Rattle.mk_model.specs.Tables.{Grid, rows_of}
-use Rattle.mk_move.specs.MoveLists.{MoveList, vectors_of}
+use Rattle.mk_move.specs.MoveLists.{TheBasis, vectors_of}
 use Rattle.mk_move.specs.Priorities.{others}
 use Rattle.mk_core.specs.declared.phase.Job.{Job}
 use Rattle.mk_saturate.specs.Starts.{IsStart}
@@ -165,7 +165,7 @@ module _ (rows : List (List ℤ)) (w : List ℤ) (budget : ℕ) (saturation : Th
   last_job : (job : Job) → IsJob saturation.basis (standard (length saturation.basis.grading)) (budget - settled_of book.phases) job → IsJob saturation.basis (standard (length w)) (budget - settled_of book.phases) job
   last_job job j = subst (λ n. IsJob saturation.basis (standard n) (budget - settled_of book.phases) job) (ap length h.reached.grading) j
 
-  pub all_done : NoneLeft saturation.left → (job : Job) → IsJob saturation.basis (standard (length saturation.basis.grading)) (budget - settled_of book.phases) job → (saturated : MoveList) (after : Book) →
+  pub all_done : NoneLeft saturation.left → (job : Job) → IsJob saturation.basis (standard (length saturation.basis.grading)) (budget - settled_of book.phases) job → (saturated : TheBasis) (after : Book) →
       TakesPhase job saturation.basis book saturated after → IsReached rows w budget (vectors_of saturated.moves) saturated after []
   all_done none job j saturated after t =
       reached_on rows w budget h.rest saturation.basis book (standard (length w)) [] (reached_all none) job (last_job job j) saturated after t
@@ -181,6 +181,6 @@ module _ (rows : List (List ℤ)) (w : List ℤ) (budget : ℕ) (saturation : Th
   last_refused none job j grid same after Stopped s = last_stopped none job j grid same after s
 
 -- a column less is left
-pub fewer : (w : List ℤ) (rows : List (List ℤ)) (budget : ℕ) (job : Job) (moves : MoveList) (book : Book) (next : TheSaturation) (after : Book) → TakesPhase job moves book next.basis after →
+pub fewer : (w : List ℤ) (rows : List (List ℤ)) (budget : ℕ) (job : Job) (moves : TheBasis) (book : Book) (next : TheSaturation) (after : Book) → TakesPhase job moves book next.basis after →
     IsSaturating rows w budget next after → length w - length after.phases < length w - length book.phases
 fewer w rows budget job moves book next after t h = omega (arith, h.columns, ap (λ (b : Book). length b.phases) t.kept, length-push book.phases t.phase)

@@ -10,7 +10,7 @@ use Rattle.mk_model.specs.Tables.{Grid, rows_of}
 use Rattle.mk_model.specs.Vectors.{negate}
 use Rattle.mk_model.proofs.VectorAlgebra.{negate-negate}
 use Rattle.mk_model.proofs.LegalEvents.{phase_is_legal}
-use Rattle.mk_move.specs.MoveLists.{MoveList, vectors_of}
+use Rattle.mk_move.specs.MoveLists.{TheBasis, vectors_of}
 use Rattle.mk_ledger.specs.Entries.{settle_of}
 use Rattle.mk_core.specs.Phases.{ledger_for, state_of, IsPhaseFrom, IsBasisFull}
 use Rattle.mk_core.specs.declared.phase.Job.{Job}
@@ -71,7 +71,7 @@ saturate_push w moves (q ∷ lists) (first ∷ phases) rest p left phase (a, b, 
     (a, b, saturate_push w (drop_redundant (vectors_of first.basis.moves)) lists phases rest p left phase h along ended)
 
 -- ---- the phase of a job over the moves
-module _ (w : List ℤ) (rest : List (List ℤ)) (basis : MoveList) (p : List ℕ) (budget : ℕ) (job : Job) (phase : Phase)
+module _ (w : List ℤ) (rest : List (List ℤ)) (basis : TheBasis) (p : List ℕ) (budget : ℕ) (job : Job) (phase : Phase)
     (turned : AllZip IsEither rest (vectors_of basis.moves)) (same : basis.grading ≡ w) (h : IsJob basis p budget job) (from : IsPhaseFrom (ledger_for job) phase) where
   legal_within : IsLegal (length job.start.grading) job.start.priority (state_of phase (length phase.journal) job.basis_limit)
   legal_within =
@@ -100,7 +100,7 @@ ended_within phase budget limit h = record { all_settled = h.all_settled; none_c
 
 -- ---- between two phases
 -- The phases of the book, which are ended, lead to `rest`, which are the moves but for their signs; these lists are left.
-pub record IsReached (rows : List (List ℤ)) (w : List ℤ) (budget : ℕ) (rest : List (List ℤ)) (basis : MoveList) (book : Book) (left : List (List ℕ)) : Type 0 where
+pub record IsReached (rows : List (List ℤ)) (w : List ℤ) (budget : ℕ) (rest : List (List ℤ)) (basis : TheBasis) (book : Book) (left : List (List ℕ)) : Type 0 where
   pub phases : SaturateRows rows w book.phases rest left
   pub turned : AllZip IsEither rest (vectors_of basis.moves)
   pub lattice : SameLattice (length w) rows (vectors_of basis.moves)
@@ -110,7 +110,7 @@ pub record IsReached (rows : List (List ℤ)) (w : List ℤ) (budget : ℕ) (res
   pub stop : book.stop ≡ None
   pub within : settled_of book.phases ≤ budget
 
-module _ (rows : List (List ℤ)) (w : List ℤ) (budget : ℕ) (rest : List (List ℤ)) (basis : MoveList) (book : Book) (p : List ℕ) (left : List (List ℕ))
+module _ (rows : List (List ℤ)) (w : List ℤ) (budget : ℕ) (rest : List (List ℤ)) (basis : TheBasis) (book : Book) (p : List ℕ) (left : List (List ℕ))
     (h : IsReached rows w budget rest basis book (p ∷ left)) (job : Job) (j : IsJob basis p (budget - settled_of book.phases) job) where
   along : (phase : Phase) → IsPhaseFrom (ledger_for job) phase → IsPhaseAlong w rest p phase
   along phase from = phase_along w rest basis p (budget - settled_of book.phases) job phase h.turned h.grading j from
@@ -120,7 +120,7 @@ module _ (rows : List (List ℤ)) (w : List ℤ) (budget : ℕ) (rest : List (Li
       let given = j.budget_given in omega (arith, settled_push book.phases phase, settled_within job phase from, h.within, given)
 
   -- a phase that is completed
-  pub reached_on : (taken : MoveList) (after : Book) → TakesPhase job basis book taken after → IsReached rows w budget (vectors_of taken.moves) taken after left
+  pub reached_on : (taken : TheBasis) (after : Book) → TakesPhase job basis book taken after → IsReached rows w budget (vectors_of taken.moves) taken after left
   reached_on taken after t = subst (λ (b : Book). IsReached rows w budget (vectors_of taken.moves) taken b left) (sym t.kept) (record {
     phases = subst (λ moves. SaturateRows rows w (book.phases ++ t.phase ∷ []) moves left) (sym t.dropped.moves) more;
     turned = either_itself (vectors_of taken.moves);

@@ -1,6 +1,6 @@
 -- What a run's book is seen as.
 use Rattle.std.specs.Prelude.{◌≡◌, ℕ, ◌+◌, ◌<◌, ◌^◌, List, [], ◌∷◌, length, Option, None}
-use Rattle.mk_move.specs.MoveLists.{MoveList}
+use Rattle.mk_move.specs.MoveLists.{TheBasis}
 use Rattle.mk_core.specs.declared.phase.Phase.{Phase}
 use Rattle.mk_solve.specs.declared.fault.InputFault.{InputFault}
 use Rattle.mk_solve.specs.declared.book.BookStop.{BookStop}
@@ -9,7 +9,7 @@ use Rattle.mk_solve.specs.declared.book.BookStop.{BookStop}
 pub record Book : Type 0 where
   pub input : Option InputFault
   pub phases : List Phase
-  pub reduced : Option MoveList
+  pub reduced : Option TheBasis
   pub stop : Option BookStop
 
 abbrev pub empty_book : Book

@@ -10,7 +10,7 @@ use Rattle.mk_model.specs.Overflows.{IsGenuineOverflow, IsTailOverflow}
 use Rattle.mk_model.specs.ReducedBases.{IsReducedBasis}
 use Rattle.mk_model.specs.Saturation.{drop_redundant}
 use Rattle.mk_model.specs.Tables.{Grid, rows_of}
-use Rattle.mk_move.specs.MoveLists.{MoveList, IsBasis, vectors_of}
+use Rattle.mk_move.specs.MoveLists.{TheBasis, IsBasis, vectors_of}
 use Rattle.mk_move.specs.Priorities.{others}
 use Rattle.mk_ledger.specs.Halts.{stop_of}
 use Rattle.mk_core.specs.Phases.{state_of, IsLeft, IsBasisFull}
@@ -61,7 +61,7 @@ SaturateRows rows w phases rest left = Saturate w (nonzero_rows rows) (lists_for
 pub record IsDone (rows : List (List ℤ)) (w : List ℤ) (book : Book) : Type 0 where
   pub rest : List (List ℤ)
   pub phases : SaturateRows rows w book.phases rest []
-  pub basis : MoveList
+  pub basis : TheBasis
   pub made : book.reduced ≡ Some basis
   pub grading : basis.grading ≡ w
   pub reduced : IsReducedBasis (length w) rows w (vectors_of basis.moves)
@@ -104,7 +104,7 @@ HasStopped rows w budget book (BasisFull number i j) =
 
 -- Solving a table's lattice: at the end the book has no stop; where it stopped the book has the stop, with its cause. No cause
 -- is given for want of memory.
-abbrev pub Solves : Grid → List ℤ → ℕ → Result MoveList RunStop → Book → Type 0
+abbrev pub Solves : Grid → List ℤ → ℕ → Result TheBasis RunStop → Book → Type 0
 Solves grid w budget (Ok basis) book =
     (book.stop ≡ None) × (book.input ≡ None) × (settled_of book.phases ≤ budget) × (book.reduced ≡ Some basis) × IsDone (rows_of grid) w book
 Solves grid w budget (Err Stopped) book =

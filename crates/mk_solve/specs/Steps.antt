@@ -4,7 +4,7 @@ use Rattle.mk_model.specs.CoreStates.{pair_of, OverflowStop}
 use Rattle.mk_model.specs.Legal.{IsEnded}
 use Rattle.mk_model.specs.Overflows.{IsGenuineOverflow, IsTailOverflow}
 use Rattle.mk_model.specs.ReducedBases.{IsReducedBasis}
-use Rattle.mk_move.specs.MoveLists.{MoveList, vectors_of}
+use Rattle.mk_move.specs.MoveLists.{TheBasis, vectors_of}
 use Rattle.mk_ledger.specs.Halts.{stop_of}
 use Rattle.mk_ledger.specs.declared.halt.OverflowStop.{OverflowStop as KeptStop}
 use Rattle.mk_core.specs.Phases.{ledger_for, state_of, IsPhaseFrom, IsLeft, IsOverBudget, IsBasisFull, Finishes}
@@ -55,7 +55,7 @@ Completes job before (Err Memory) after = after ≡ before
 Completes job before (Err Stopped) after = StopsIn job before after
 
 -- the job's phase is completed: the book keeps it, and what it leaves of the moves is taken
-pub record TakesPhase (job : Job) (moves : MoveList) (before : Book) (taken : MoveList) (after : Book) : Type 0 where
+pub record TakesPhase (job : Job) (moves : TheBasis) (before : Book) (taken : TheBasis) (after : Book) : Type 0 where
   pub phase : Phase
   pub from : IsPhaseFrom (ledger_for job) phase
   pub ended : IsEnded (state_of phase job.budget job.basis_limit)
@@ -73,7 +73,7 @@ TakesColumn now job before (Err Memory) next after = after ≡ before
 TakesColumn now job before (Err Stopped) next after = StopsIn job before after
 
 -- the last phase leaves the saturated basis, or it stopped
-abbrev pub TakesLast : MoveList → Job → Book → Result MoveList RunStop → Book → Type 0
+abbrev pub TakesLast : TheBasis → Job → Book → Result TheBasis RunStop → Book → Type 0
 TakesLast moves job before (Ok saturated) after = TakesPhase job moves before saturated after
 TakesLast moves job before (Err Memory) after = after ≡ before
 TakesLast moves job before (Err Stopped) after = StopsIn job before after
@@ -88,20 +88,20 @@ pub record IsTailStop (moves : List (List ℤ)) (index : ℕ) (stop : OverflowSt
   pub genuine : IsTailOverflow moves index place operand stop
 
 -- the reduced basis, which the book keeps
-pub record KeepsReduced (saturated : MoveList) (before : Book) (basis : MoveList) (after : Book) : Type 0 where
+pub record KeepsReduced (saturated : TheBasis) (before : Book) (basis : TheBasis) (after : Book) : Type 0 where
   pub reduced : IsReducedBasis (length saturated.grading) (vectors_of saturated.moves) saturated.grading (vectors_of basis.moves)
   pub grading : basis.grading ≡ saturated.grading
   pub kept : after ≡ record before { reduced = Some basis }
 
 -- a stop at a tail, which the book keeps
-pub record KeepsTailStop (saturated : MoveList) (before after : Book) : Type 0 where
+pub record KeepsTailStop (saturated : TheBasis) (before after : Book) : Type 0 where
   pub index : ℕ
   pub stop : KeptStop
   pub cause : IsTailStop (vectors_of saturated.moves) index (stop_of stop)
   pub kept : after ≡ record before { stop = Some (Overflow (Tail index) stop) }
 
 -- the reduced basis, or why there is none
-abbrev pub Reduces : MoveList → Book → Result MoveList RunStop → Book → Type 0
+abbrev pub Reduces : TheBasis → Book → Result TheBasis RunStop → Book → Type 0
 Reduces saturated before (Ok basis) after = KeepsReduced saturated before basis after
 Reduces saturated before (Err Memory) after = after ≡ before
 Reduces saturated before (Err Stopped) after = KeepsTailStop saturated before after

@@ -1,6 +1,6 @@
 use Rattle.std.proofs.Common.{ap, ◌∙◌}
 use Rattle.mk_model.specs.Texts.{move_text}
-use Rattle.mk_move.specs.MoveLists.{MoveList, vectors_of}
+use Rattle.mk_move.specs.MoveLists.{TheBasis, vectors_of}
 use Rattle.mk_run.proofs.Solved.{answer_of_done, empty_is_kept, not_stopped_yet, passed_stop}
 use Rattle.mk_run.proofs.reduced.reduced_text.Goals as goal
 
@@ -17,5 +17,5 @@ returns-clause-solved c =
       answer_of_done c.args.table.now c.in_ok-grading.grading c.solve_alone.new.book basis c.in_ok-grading.ensures c.in_ok-reduced.ensures.3 c.in_ok-reduced.ensures.4,
       c.in_ok-move_text.ensures
           ∙ ap (λ n. move_text n (vectors_of c.basis.result.now.moves)) c.columns.ensures.value
-          ∙ ap (λ (b : MoveList). move_text columns (vectors_of b.moves)) c.basis.ensures.value,
+          ∙ ap (λ (b : TheBasis). move_text columns (vectors_of b.moves)) c.basis.ensures.value,
     )

@@ -1,7 +1,7 @@
 use Rattle.std.proofs.Common.{◌-◌, length, sym, refl, subst, Some, Option, Result}
 use Rattle.mk_model.specs.Orders.{standard}
 use Rattle.mk_model.specs.Tables.{rows_of}
-use Rattle.mk_move.specs.MoveLists.{MoveList}
+use Rattle.mk_move.specs.MoveLists.{TheBasis}
 use Rattle.mk_core.specs.declared.phase.Job.{Job}
 use Rattle.mk_saturate.specs.Saturations.{NoneLeft, IsJob, IsNextJob}
 use Rattle.mk_solve.specs.Books.{settled_of}
@@ -36,7 +36,7 @@ last_job c =
 
 pub returns-in_err-saturation : goal.returns-in_err-saturation
 returns-in_err-saturation c =
-    subst (λ (result : Result MoveList RunStop). Solves c.args.lat.now c.args.grading.now c.args.budget result c.args.book.now) (sym (the_error c.from_residual.result Memory c.from_residual.ensures.1))
+    subst (λ (result : Result TheBasis RunStop). Solves c.args.lat.now c.args.grading.now c.args.budget result c.args.book.now) (sym (the_error c.from_residual.result Memory c.from_residual.ensures.1))
     (nothing_kept c.args.lat.now c.args.grading.now c.args.budget c.args.book.now c.requires.book)
 
 pub loop-saturation-init : goal.loop-saturation-init
@@ -58,7 +58,7 @@ loop-saturation-preserved c =
 pub returns-in_err-saturate_column : goal.returns-in_err-saturate_column
 returns-in_err-saturate_column c =
     let fault = c.in_err-saturate_column.field-0.0 in
-    subst (λ (result : Result MoveList RunStop). Solves c.args.lat.now c.args.grading.now c.args.budget result c.saturate_column.new.book)
+    subst (λ (result : Result TheBasis RunStop). Solves c.args.lat.now c.args.grading.now c.args.budget result c.saturate_column.new.book)
     (sym (the_error c.from_residual-in_err-saturate_column.result fault c.from_residual-in_err-saturate_column.ensures.1))
     (column_refused (rows_of c.args.lat.now) c.args.grading.now c.args.budget c.loop-saturation.saturation c.loop-saturation.book c.loop-saturation.invariant c.in-Some.job
     (next_job (goal.at.returns-in_err-saturate_column c).In-Some) c.args.lat.now refl c.saturate_column.new.saturation c.saturate_column.new.book fault c.in_err-saturate_column.ensures)
@@ -67,7 +67,7 @@ pub returns-in_err-saturated : goal.returns-in_err-saturated
 returns-in_err-saturated c =
     let fault = c.in_err-saturated.field-0.0 in
     let at = goal.at.returns-in_err-saturated c in
-    subst (λ (result : Result MoveList RunStop). Solves c.args.lat.now c.args.grading.now c.args.budget result c.finish.new.book)
+    subst (λ (result : Result TheBasis RunStop). Solves c.args.lat.now c.args.grading.now c.args.budget result c.finish.new.book)
     (sym (the_error c.from_residual-in_err-saturated.result fault c.from_residual-in_err-saturated.ensures.1))
     (last_refused (rows_of c.args.lat.now) c.args.grading.now c.args.budget c.loop-saturation.saturation c.loop-saturation.book c.loop-saturation.invariant (none_left at.In_default)
     c.in_ok-job-2.job (last_job at.In_ok-job-2) c.args.lat.now refl c.finish.new.book fault c.in_err-saturated.ensures)

@@ -1,7 +1,7 @@
 use Rattle.std.proofs.Common.{subst, sym}
 use Rattle.mk_model.specs.Orders.{standard}
 use Rattle.std.proofs.Common.{length}
-use Rattle.mk_move.specs.MoveLists.{MoveList}
+use Rattle.mk_move.specs.MoveLists.{TheBasis}
 use Rattle.mk_saturate.specs.Saturations.{TheSaturation, IsSaturation, IsDropped}
 use Rattle.mk_saturate.proofs.Completions.{leaves, saturated}
 use Rattle.mk_saturate.proofs.saturation.Saturation.finish.Goals as goal
@@ -15,5 +15,5 @@ pub returns : goal.returns
 returns c =
     let s = subst (λ (s : TheSaturation). IsSaturation s) c.self.view_is c.self.invariant in
     let basis = c.args.self.now.basis in
-    subst (λ (after : MoveList). IsDropped basis c.args.completed.now after) (sym c.new.ensures)
+    subst (λ (after : TheBasis). IsDropped basis c.args.completed.now after) (sym c.new.ensures)
     (leaves basis (standard (length basis.grading)) c.args.completed.now c.in_ok-kept.kept s.kept c.requires.last c.in_ok-kept.ensures)

@@ -88,14 +88,6 @@ impl ReducedBasis {
     {
         &self.basis
     }
-
-    /// A copy of it.
-    pub fn try_copy(&self) -> Result<ReducedBasis, NoMemory>
-        ensures { IfOk result (λ copy. copy ≡ self.now) }
-    {
-        let basis = self.basis.try_copy()?;
-        Ok(ReducedBasis { basis })
-    }
 }
 
 /// The reduced basis of the lattice: each tail of a move is replaced by the least vector of its fibre, and the moves ascend by
@@ -104,6 +96,7 @@ pub fn reduce_tails(alloc: Global, basis: &SaturatedBasis) -> Result<ReducedBasi
     ensures reduced { IfOk result (λ reduced. IsReducedBasis (length basis.now.grading) (vectors_of basis.now.moves) basis.now.grading (vectors_of reduced.moves)) }
     ensures lattice { IfOk result (λ reduced. SameLattice (length basis.now.grading) (vectors_of basis.now.moves) (vectors_of reduced.moves)) }
     ensures grading { IfOk result (λ reduced. reduced.grading ≡ basis.now.grading) }
+    ensures kept { IfOk result IsReducedList }
     ensures refused { IfErr result (IsTailFault basis.now) }
 {
     let basis = basis.basis();

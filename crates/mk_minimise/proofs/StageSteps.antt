@@ -80,6 +80,8 @@ module _ (basis : TheBasis) (h : IsReducedList basis) (lower : TheBasis) (front 
   of_degree i j e =
       subst (λ (p : Pair). IsPairOfDegree basis.grading rows p.first p.second) (sym e)
       (record {
+        ordered = o.ordered;
+        within = o.within;
         overlap = o.overlap;
         move = move_at rows (length lower.moves);
         member = member_at basis h (length lower.moves) more;

@@ -1,5 +1,5 @@
 -- The list of essential moves, and why it can't be found. (Sturmfels, chapter 5: minimal Markov bases)
-use Rattle.std.specs.Prelude.{◌≡◌, ℕ, List, Contains, Option, None, Some, ℤ}
+use Rattle.std.specs.Prelude.{◌≡◌, ℕ, ◌<◌, List, length, Contains, Option, None, Some, ℤ}
 use Rattle.mk_model.specs.CoreStates.{Pair, pair_of, move_at, stop_at}
 use Rattle.mk_model.specs.Orders.{lead}
 use Rattle.mk_model.specs.Overflows.{IsGenuineOverflow}
@@ -17,8 +17,11 @@ abbrev pub operand_of : Option Weighed → Option (List ℤ)
 operand_of None = None
 operand_of (Some m) = Some m.entries
 
--- The pair's leads overlap, and the weight of their least common multiple is the weight of a move of the list.
+-- Two places of the list, the lesser first: their leads overlap, and the weight of their least common multiple is the weight of
+-- a move of the list.
 pub record IsPairOfDegree (w : List ℤ) (moves : List (List ℤ)) (i j : ℕ) : Type 0 where
+  pub ordered : i < j
+  pub within : j < length moves
   pub overlap : ¬ (AreDisjoint (lead (move_at moves i)) (lead (move_at moves j)))
   pub move : List ℤ
   pub member : Contains moves move

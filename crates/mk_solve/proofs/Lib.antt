@@ -3,4 +3,6 @@ pub mod Sums
 pub mod JobStops
 pub mod Reached
 pub mod Columns
+pub mod SameAnswers
 pub mod Tails
+pub mod Minimising

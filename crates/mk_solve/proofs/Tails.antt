@@ -1,12 +1,14 @@
 -- The reduced basis of a run, and why there is none.
-use Rattle.std.proofs.Common.{ℕ, List, [], length, Ok, Result, Err, ℤ, refl, sym, ◌∙◌, subst}
+use Rattle.std.proofs.Common.{◌≡◌, ℕ, List, [], length, Err, Some, ℤ, sym, ◌∙◌, subst, refl}
+use Rattle.mk_model.specs.Lattices.{SameLattice}
 use Rattle.mk_model.specs.ReducedBases.{IsReducedBasis}
 use Rattle.mk_model.specs.Tables.{Grid, rows_of}
 use Rattle.mk_move.specs.MoveLists.{TheBasis, vectors_of}
 use Rattle.mk_inter.proofs.SameLattices.{SameLattice-back, basis_of_others}
+use Rattle.mk_saturate.proofs.Spans.{SameLattice-transitive}
 use Rattle.mk_solve.specs.Books.{Book}
-use Rattle.mk_solve.specs.Solutions.{Solves}
-use Rattle.mk_solve.specs.Steps.{KeepsReduced, KeepsTailStop, Reduces}
+use Rattle.mk_solve.specs.Solutions.{IsDone, Solves}
+use Rattle.mk_solve.specs.Steps.{IsReducedOf, KeepsTailStop, Reduces}
 use Rattle.mk_solve.specs.declared.book.BookStop.TheVariants.{Overflow}
 use Rattle.mk_solve.specs.declared.book.OverflowPlace.TheVariants.{Tail}
 use Rattle.mk_solve.specs.declared.solving.RunStop.{RunStop}
@@ -14,28 +16,29 @@ use Rattle.mk_solve.specs.declared.solving.RunStop.TheVariants.{Memory, Stopped}
 use Rattle.mk_solve.proofs.Reached.{IsReached}
 
 module _ (grid : Grid) (w : List ℤ) (budget : ℕ) (saturated : TheBasis) (book : Book) (h : IsReached (rows_of grid) w budget (vectors_of saturated.moves) saturated book []) where
-  reduced_of_rows : (basis : TheBasis) → IsReducedBasis (length saturated.grading) (vectors_of saturated.moves) saturated.grading (vectors_of basis.moves) → IsReducedBasis (length w) (rows_of grid) w (vectors_of basis.moves)
+  pub reduced_of_rows : (basis : TheBasis) → IsReducedOf saturated basis → IsReducedBasis (length w) (rows_of grid) w (vectors_of basis.moves)
   reduced_of_rows basis r =
       basis_of_others (SameLattice-back h.lattice)
-      (subst (λ (v : List ℤ). IsReducedBasis (length v) (vectors_of saturated.moves) v (vectors_of basis.moves)) h.grading r)
+      (subst (λ (v : List ℤ). IsReducedBasis (length v) (vectors_of saturated.moves) v (vectors_of basis.moves)) h.grading r.reduced)
 
-  pub reduced_solves : (basis : TheBasis) (after : Book) → KeepsReduced saturated book basis after → Solves grid w budget (Ok basis) after
-  reduced_solves basis after k = subst (λ (b : Book). Solves grid w budget (Ok basis) b) (sym k.kept) (
-    h.stop,
-    h.input,
-    h.within,
-    refl,
-    record {
-      rest = vectors_of saturated.moves;
-      phases = h.phases;
-      basis = basis;
-      made = refl;
-      grading = k.grading ∙ h.grading;
-      reduced = reduced_of_rows basis k.reduced;
-    },
-  )
+  -- the lattice of the rows is that of the reduced basis
+  pub lattice_of_reduced : (basis : TheBasis) → IsReducedOf saturated basis → SameLattice (length w) (rows_of grid) (vectors_of basis.moves)
+  lattice_of_reduced basis r =
+      SameLattice-transitive (length w) (rows_of grid) (vectors_of saturated.moves) (vectors_of basis.moves) h.lattice
+      (subst (λ (v : List ℤ). SameLattice (length v) (vectors_of saturated.moves) (vectors_of basis.moves)) h.grading r.lattice)
 
-  pub tail_stopped : (after : Book) → KeepsTailStop saturated book after → Solves grid w budget (Err Stopped) after
+  -- a book that keeps the reduced basis beside the phases is done
+  unfoldable pub done_with : (basis : TheBasis) → IsReducedOf saturated basis → (after : Book) → after.phases ≡ book.phases → after.reduced ≡ Some basis → IsDone (rows_of grid) w after
+  done_with basis r after phases made = record {
+    rest = vectors_of saturated.moves;
+    phases = rw phases h.phases;
+    basis = basis;
+    made = made;
+    grading = r.grading ∙ h.grading;
+    reduced = reduced_of_rows basis r;
+  }
+
+  tail_stopped : (after : Book) → KeepsTailStop saturated book after → Solves grid w budget (Err Stopped) after
   tail_stopped after k = subst (λ (b : Book). Solves grid w budget (Err Stopped) b) (sym k.kept) (
     h.input,
     h.within,
@@ -56,7 +59,7 @@ module _ (grid : Grid) (w : List ℤ) (budget : ℕ) (saturated : TheBasis) (boo
     ),
   )
 
-  pub reduction_solves : (result : Result TheBasis RunStop) (after : Book) → Reduces saturated book result after → Solves grid w budget result after
-  reduction_solves (Ok basis) after k = reduced_solves basis after k
-  reduction_solves (Err Memory) after e = subst (λ (b : Book). Solves grid w budget (Err Memory) b) (sym e) (h.stop, h.input, h.within)
-  reduction_solves (Err Stopped) after k = tail_stopped after k
+  -- no reduced basis
+  pub reduction_refused : (fault : RunStop) (after : Book) → Reduces saturated book (Err fault) after → Solves grid w budget (Err fault) after
+  reduction_refused Memory after e = subst (λ (b : Book). Solves grid w budget (Err Memory) b) (sym e) (h.stop, h.input, h.within)
+  reduction_refused Stopped after k = tail_stopped after k

@@ -1,7 +1,8 @@
--- How a lattice is solved: its phases, one after another, and the reduced basis; and why that stops. (Sturmfels, chapters 1, 5
+-- How a lattice is solved: its phases, one after another, the reduced basis, and the essential moves; and why that stops. (Sturmfels, chapters 1, 5
 -- and 12; Hemmecke and Malkin 2009)
 use Rattle.std.specs.Prelude.{◌≡◌, ℕ, ◌≤◌, List, [], ◌∷◌, ◌++◌, take, length, None, Some, Result, Ok, Err, ℤ}
 use Rattle.std.specs.List.{range_with_len, AllZip}
+use Rattle.mk_model.specs.Bases.{IsTheAnswer}
 use Rattle.mk_model.specs.CoreStates.{Pair as CorePair, pair_of, OverflowStop}
 use Rattle.mk_model.specs.Lattices.{nonzero_rows}
 use Rattle.mk_model.specs.Legal.{IsLegal, IsEnded}
@@ -10,12 +11,13 @@ use Rattle.mk_model.specs.Overflows.{IsGenuineOverflow, IsTailOverflow}
 use Rattle.mk_model.specs.ReducedBases.{IsReducedBasis}
 use Rattle.mk_model.specs.Saturation.{drop_redundant}
 use Rattle.mk_model.specs.Tables.{Grid, rows_of}
-use Rattle.mk_move.specs.MoveLists.{TheBasis, IsBasis, vectors_of}
+use Rattle.mk_move.specs.MoveLists.{TheList, TheBasis, IsBasis, vectors_of}
 use Rattle.mk_move.specs.Priorities.{others}
 use Rattle.mk_ledger.specs.Halts.{stop_of}
 use Rattle.mk_core.specs.Phases.{state_of, IsLeft, IsBasisFull}
 use Rattle.mk_core.specs.declared.phase.Phase.{Phase}
 use Rattle.mk_saturate.specs.Starts.{IsRowTurned}
+use Rattle.mk_minimise.specs.Minimal.{IsPairOfDegree}
 use Rattle.mk_solve.specs.Books.{Book, settled_of}
 use Rattle.mk_solve.specs.declared.book.BookStop.{BookStop}
 use Rattle.mk_solve.specs.declared.book.BookStop.TheVariants.{Overflow, Budget, BasisFull}
@@ -90,23 +92,35 @@ pub record StopsAtTail (rows : List (List ℤ)) (w : List ℤ) (book : Book) (in
   pub genuine : IsTailOverflow rest index place operand stop
   pub not_reduced : book.reduced ≡ None
 
+-- Every phase is ended, and the reduced basis is made. An entry left the range at a pair of it whose degree is that of a move.
+pub record StopsAtDegree (rows : List (List ℤ)) (w : List ℤ) (book : Book) (stop : OverflowStop) : Type 0 where
+  pub done : IsDone rows w book
+  pub degree : IsPairOfDegree w (vectors_of done.basis.moves) stop.pair.first stop.pair.second
+  pub genuine : IsGenuineOverflow (vectors_of done.basis.moves) stop
+
 -- The cause of each stop, by what the book keeps.
 abbrev pub HasStopped : List (List ℤ) → List ℤ → ℕ → Book → BookStop → Type 0
 HasStopped rows w budget book (Overflow (Pair number) stop) =
     (phase : Phase) × StandsAt rows w book number phase × IsLeft phase (stop_of stop).pair × IsGenuineOverflow (vectors_of phase.basis.moves) (stop_of stop)
 HasStopped rows w budget book (Overflow (Tail index) stop) = StopsAtTail rows w book index (stop_of stop)
-HasStopped rows w budget book (Overflow Degree stop) = ⊥
+HasStopped rows w budget book (Overflow Degree stop) = StopsAtDegree rows w book (stop_of stop)
 HasStopped rows w budget book (Budget settled) =
     (settled ≡ settled_of book.phases) × (settled ≡ budget)
     × ((number : ℕ) × (phase : Phase) × StandsAt rows w book number phase × ((pair : CorePair) × IsLeft phase pair))
 HasStopped rows w budget book (BasisFull number i j) =
     (phase : Phase) × StandsAt rows w book number phase × IsBasisFull 65536 phase (pair_of i j)
 
+-- The list is the one answer that the lattice has, and the book is done with it.
+pub record IsSolved (rows : List (List ℤ)) (w : List ℤ) (book : Book) (list : TheList) : Type 0 where
+  pub done : IsDone rows w book
+  pub columns : list.columns ≡ length w
+  pub answer : IsTheAnswer (length w) rows w (vectors_of list.moves)
+
 -- Solving a table's lattice: at the end the book has no stop; where it stopped the book has the stop, with its cause. No cause
 -- is given for want of memory.
-abbrev pub Solves : Grid → List ℤ → ℕ → Result TheBasis RunStop → Book → Type 0
-Solves grid w budget (Ok basis) book =
-    (book.stop ≡ None) × (book.input ≡ None) × (settled_of book.phases ≤ budget) × (book.reduced ≡ Some basis) × IsDone (rows_of grid) w book
+abbrev pub Solves : Grid → List ℤ → ℕ → Result TheList RunStop → Book → Type 0
+Solves grid w budget (Ok list) book =
+    (book.stop ≡ None) × (book.input ≡ None) × (settled_of book.phases ≤ budget) × IsSolved (rows_of grid) w book list
 Solves grid w budget (Err Stopped) book =
     (book.input ≡ None) × (settled_of book.phases ≤ budget) × ((stop : BookStop) × (book.stop ≡ Some stop) × HasStopped (rows_of grid) w budget book stop)
 Solves grid w budget (Err Memory) book = (book.stop ≡ None) × (book.input ≡ None) × (settled_of book.phases ≤ budget)

@@ -1,16 +1,20 @@
 -- What the steps of a run give, and what they leave in the book.
 use Rattle.std.specs.Prelude.{◌≡◌, ℕ, List, [], ◌∷◌, ◌++◌, length, Bool, false, set, Some, Result, Ok, Err, ℤ}
+use Rattle.mk_model.specs.Bases.{IsAnswer}
 use Rattle.mk_model.specs.CoreStates.{pair_of, OverflowStop}
+use Rattle.mk_model.specs.Lattices.{SameLattice}
 use Rattle.mk_model.specs.Legal.{IsEnded}
 use Rattle.mk_model.specs.Overflows.{IsGenuineOverflow, IsTailOverflow}
 use Rattle.mk_model.specs.ReducedBases.{IsReducedBasis}
-use Rattle.mk_move.specs.MoveLists.{TheBasis, vectors_of}
+use Rattle.mk_move.specs.MoveLists.{TheList, TheBasis, vectors_of}
 use Rattle.mk_ledger.specs.Halts.{stop_of}
 use Rattle.mk_ledger.specs.declared.halt.OverflowStop.{OverflowStop as KeptStop}
 use Rattle.mk_core.specs.Phases.{ledger_for, state_of, IsPhaseFrom, IsLeft, IsOverBudget, IsBasisFull, Finishes}
 use Rattle.mk_core.specs.declared.phase.Job.{Job}
 use Rattle.mk_core.specs.declared.phase.Phase.{Phase}
 use Rattle.mk_saturate.specs.Saturations.{TheSaturation, IsLeastLeft, IsDropped}
+use Rattle.mk_inter.specs.Tails.{IsReducedList}
+use Rattle.mk_minimise.specs.Minimal.{IsPairOfDegree}
 use Rattle.mk_solve.specs.Books.{Book, settled_of}
 use Rattle.mk_solve.specs.declared.book.BookStop.{BookStop}
 use Rattle.mk_solve.specs.declared.book.BookStop.TheVariants.{Overflow, Budget, BasisFull}
@@ -87,11 +91,12 @@ pub record IsTailStop (moves : List (List ℤ)) (index : ℕ) (stop : OverflowSt
   pub from : stop.operand ≡ Some operand
   pub genuine : IsTailOverflow moves index place operand stop
 
--- the reduced basis, which the book keeps
-pub record KeepsReduced (saturated : TheBasis) (before : Book) (basis : TheBasis) (after : Book) : Type 0 where
+-- the reduced basis of what the saturated one spans
+pub record IsReducedOf (saturated : TheBasis) (basis : TheBasis) : Type 0 where
   pub reduced : IsReducedBasis (length saturated.grading) (vectors_of saturated.moves) saturated.grading (vectors_of basis.moves)
+  pub lattice : SameLattice (length saturated.grading) (vectors_of saturated.moves) (vectors_of basis.moves)
   pub grading : basis.grading ≡ saturated.grading
-  pub kept : after ≡ record before { reduced = Some basis }
+  pub kept : IsReducedList basis
 
 -- a stop at a tail, which the book keeps
 pub record KeepsTailStop (saturated : TheBasis) (before after : Book) : Type 0 where
@@ -102,6 +107,24 @@ pub record KeepsTailStop (saturated : TheBasis) (before after : Book) : Type 0 w
 
 -- the reduced basis, or why there is none
 abbrev pub Reduces : TheBasis → Book → Result TheBasis RunStop → Book → Type 0
-Reduces saturated before (Ok basis) after = KeepsReduced saturated before basis after
+Reduces saturated before (Ok basis) after = IsReducedOf saturated basis × (after ≡ before)
 Reduces saturated before (Err Memory) after = after ≡ before
 Reduces saturated before (Err Stopped) after = KeepsTailStop saturated before after
+
+-- the essential moves of what the reduced basis spans
+pub record IsMinimalOf (basis : TheBasis) (list : TheList) : Type 0 where
+  pub columns : list.columns ≡ length basis.grading
+  pub answer : IsAnswer (length basis.grading) (vectors_of basis.moves) basis.grading (vectors_of list.moves)
+
+-- a stop at a degree of the reduced basis, and this basis, which the book keeps
+pub record KeepsDegreeStop (basis : TheBasis) (before after : Book) : Type 0 where
+  pub stop : KeptStop
+  pub degree : IsPairOfDegree basis.grading (vectors_of basis.moves) stop.i stop.j
+  pub genuine : IsGenuineOverflow (vectors_of basis.moves) (stop_of stop)
+  pub kept : after ≡ record before { reduced = Some basis; stop = Some (Overflow Degree stop) }
+
+-- the essential moves, or why there are none; the book keeps the reduced basis
+abbrev pub Minimises : TheBasis → Book → Result TheList RunStop → Book → Type 0
+Minimises basis before (Ok list) after = IsMinimalOf basis list × (after ≡ record before { reduced = Some basis })
+Minimises basis before (Err Memory) after = after ≡ record before { reduced = Some basis }
+Minimises basis before (Err Stopped) after = KeepsDegreeStop basis before after

@@ -1,4 +1,5 @@
-//! Solving a lattice: its saturation, phase by phase, and the reduced basis, with the book that keeps what was done.
+//! Solving a lattice: its saturation, phase by phase, the reduced basis and the essential moves, with the book that keeps what
+//! was done.
 #![tactic(auto)]
 
 mod book;
@@ -10,4 +11,5 @@ pub use book::{BookStop, OverflowPlace, RunBook};
 pub use fault::{InputFault, InputFile};
 pub use mk_core::{Journal, JournalEntry, Kind, Phase};
 pub use mk_ledger::OverflowStop;
+pub use mk_minimise::MinimalList;
 pub use solving::{RunStop, solve_alone};

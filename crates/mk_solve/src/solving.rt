@@ -5,7 +5,7 @@ ghost use Rattle.mk_model.specs.Vectors.{weight};
 ghost use Rattle.mk_saturate.specs.Saturations.{NoneLeft, IsJob, IsNextJob};
 ghost use Rattle.mk_solve.specs.Books.{empty_book, settled_of};
 ghost use Rattle.mk_solve.specs.Solutions.{Solves};
-ghost use Rattle.mk_solve.specs.Steps.{TakesColumn, TakesLast, Reduces};
+ghost use Rattle.mk_solve.specs.Steps.{TakesColumn, TakesLast, Reduces, Minimises};
 
 use crate::book::{BookStop, OverflowPlace, RunBook};
 use crate::completing::complete;
@@ -13,6 +13,7 @@ use mk_core::{Job, SaturatedBasis};
 use mk_files::Table;
 use mk_inter::{ReducedBasis, TailFault, reduce_tails};
 use mk_ledger::OverflowStop;
+use mk_minimise::{MinimalList, MinimiseFault, minimise};
 use mk_model::NoMemory;
 use mk_move::Grading;
 use mk_saturate::Saturation;
@@ -36,16 +37,17 @@ impl From<NoMemory> for RunStop {
     }
 }
 
-/// The reduced basis of the lattice of a table's rows, by one worker. The grading has as many columns as the table and product 0
-/// with each row, and at most so many pairs are settled. The book, which is empty, keeps each phase, the one that stopped too,
-/// and the reduced basis. `Stopped` exactly where the book has a stop. (Sturmfels, chapters 1 and 12)
+/// The essential moves of the lattice of a table's rows, ascending by move order, by one worker. The grading has as many columns as
+/// the table and product 0 with each row, and at most so many pairs are settled; those of the last step aren't counted. The book,
+/// which is empty, keeps each phase, the one that stopped too, and the reduced basis. `Stopped` exactly where the book has a stop.
+/// (Sturmfels, chapters 1, 5 and 12)
 pub fn solve_alone(
     alloc: Global,
     lat: &Table,
     grading: &Grading,
     budget: u64,
     book: &mut RunBook,
-) -> Result<ReducedBasis, RunStop>
+) -> Result<MinimalList, RunStop>
     requires book { book.old ≡ empty_book }
     requires columns { length grading.now ≡ lat.now.columns }
     requires graded { All (λ row. weight grading.now row ≡ pos 0) (rows_of lat.now) }
@@ -57,7 +59,8 @@ pub fn solve_alone(
     }
     let job = saturation.final_job(alloc, budget - book.settled())?;
     let saturated = finish(alloc, &saturation, job, book)?;
-    reduce(alloc, &saturated, book)
+    let reduced = reduce(alloc, &saturated, book)?;
+    choose(alloc, reduced, grading, book)
 }
 
 /// Saturates the least unsaturated column by the phase of its job, which the book keeps, the one that stopped too.
@@ -97,7 +100,7 @@ fn finish(
     Ok(saturated)
 }
 
-/// The reduced basis, of which the book keeps a copy. Where an entry leaves the range the book keeps that stop.
+/// The reduced basis. Where an entry leaves the range the book keeps that stop.
 fn reduce(
     alloc: Global,
     saturated: &SaturatedBasis,
@@ -106,10 +109,7 @@ fn reduce(
     ensures { Reduces saturated.now book.old result book.new }
 {
     match reduce_tails(alloc, saturated) {
-        Ok(reduced) => {
-            book.keep_reduced(reduced.try_copy()?);
-            Ok(reduced)
-        }
+        Ok(reduced) => Ok(reduced),
         Err(TailFault::Memory) => Err(RunStop::Memory),
         Err(
             TailFault::Overflow {
@@ -127,6 +127,45 @@ fn reduce(
                 at,
             };
             let place = OverflowPlace::Tail { index };
+            book.stop_with(BookStop::Overflow { place, stop });
+            Err(RunStop::Stopped)
+        }
+    }
+}
+
+/// The essential moves, chosen from the reduced basis, which the book keeps. Where an entry leaves the range the book keeps that
+/// stop.
+fn choose(
+    alloc: Global,
+    reduced: ReducedBasis,
+    grading: &Grading,
+    book: &mut RunBook,
+) -> Result<MinimalList, RunStop>
+    requires { grading.now ≡ reduced.grading }
+    ensures { Minimises reduced book.old result book.new }
+{
+    let chosen = minimise(alloc, &reduced, grading);
+    book.keep_reduced(reduced);
+    match chosen {
+        Ok(list) => Ok(list),
+        Err(MinimiseFault::Memory) => Err(RunStop::Memory),
+        Err(
+            MinimiseFault::Overflow {
+                i,
+                j,
+                by,
+                operand,
+                at,
+            },
+        ) => {
+            let stop = OverflowStop {
+                i,
+                j,
+                by,
+                operand,
+                at,
+            };
+            let place = OverflowPlace::Degree;
             book.stop_with(BookStop::Overflow { place, stop });
             Err(RunStop::Stopped)
         }

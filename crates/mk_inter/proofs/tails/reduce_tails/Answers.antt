@@ -23,3 +23,8 @@ pub returns-clause-lattice : goal.returns-clause-lattice
 returns-clause-lattice c =
     made_spans c.args.basis.now c.basis-basis.result.now c.basis-basis.ensures.value c.basis-basis.ensures.kept c.in_ok-tails.tails.items c.sort_moves.new.moves.items c.in_ok-tails.ensures.reduced c.in_ok-sort_moves.ensures.same
     c.in_ok-sort_moves.ensures.sorted c.in_ok-reduced.reduced c.in_ok-reduced.ensures.moves c.in_ok-reduced.ensures.priority c.in_ok-reduced.ensures.grading
+
+pub returns-clause-kept : goal.returns-clause-kept
+returns-clause-kept c =
+    made_list c.args.basis.now c.basis-basis.result.now c.basis-basis.ensures.value c.basis-basis.ensures.kept c.in_ok-tails.tails.items c.sort_moves.new.moves.items c.in_ok-tails.ensures.reduced c.in_ok-sort_moves.ensures.same
+    c.in_ok-sort_moves.ensures.sorted c.in_ok-reduced.reduced c.in_ok-reduced.ensures.moves c.in_ok-reduced.ensures.priority c.in_ok-reduced.ensures.grading

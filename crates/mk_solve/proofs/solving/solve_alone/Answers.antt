@@ -1,18 +1,20 @@
-use Rattle.std.proofs.Common.{◌-◌, length, sym, refl, subst, Some, Option, Result}
+use Rattle.std.proofs.Common.{◌-◌, ◌∙◌, length, sym, refl, subst, Some, Option, Result, []}
 use Rattle.mk_model.specs.Orders.{standard}
 use Rattle.mk_model.specs.Tables.{rows_of}
-use Rattle.mk_move.specs.MoveLists.{TheBasis}
+use Rattle.mk_move.specs.MoveLists.{TheList, vectors_of}
 use Rattle.mk_core.specs.declared.phase.Job.{Job}
 use Rattle.mk_saturate.specs.Saturations.{NoneLeft, IsJob, IsNextJob}
-use Rattle.mk_solve.specs.Books.{settled_of}
+use Rattle.mk_solve.specs.Books.{Book, settled_of}
 use Rattle.mk_solve.specs.Solutions.{Solves}
 use Rattle.mk_solve.specs.declared.solving.RunStop.{RunStop}
 use Rattle.mk_solve.specs.declared.solving.RunStop.TheVariants.{Memory}
 use Rattle.mk_solve.proofs.Faults.{the_error}
 use Rattle.mk_solve.proofs.Columns.{IsSaturating, nothing_kept, begins, column_done, column_refused, fewer, all_done, last_refused}
-use Rattle.mk_solve.proofs.Tails.{reduction_solves}
+use Rattle.mk_solve.proofs.Reached.{IsReached}
+use Rattle.mk_solve.proofs.Tails.{reduction_refused}
+use Rattle.mk_solve.proofs.Minimising.{minimising_solves}
 use Rattle.mk_solve.proofs.solving.solve_alone.Goals as goal
-use Rattle.mk_solve.proofs.solving.solve_alone.Goals.{In-Some, In_ok-saturate_column, In_default, In_ok-job-2}
+use Rattle.mk_solve.proofs.solving.solve_alone.Goals.{In-Some, In_ok-saturate_column, In_default, In_ok-job-2, In_ok-saturated}
 
 -- ---- the job of the next column
 next_job : (c : In-Some) → IsNextJob c.loop-saturation.saturation (c.args.budget - settled_of c.loop-saturation.book.phases) (Some c.in-Some.job)
@@ -36,7 +38,7 @@ last_job c =
 
 pub returns-in_err-saturation : goal.returns-in_err-saturation
 returns-in_err-saturation c =
-    subst (λ (result : Result TheBasis RunStop). Solves c.args.lat.now c.args.grading.now c.args.budget result c.args.book.now) (sym (the_error c.from_residual.result Memory c.from_residual.ensures.1))
+    subst (λ (result : Result TheList RunStop). Solves c.args.lat.now c.args.grading.now c.args.budget result c.args.book.now) (sym (the_error c.from_residual.result Memory c.from_residual.ensures.1))
     (nothing_kept c.args.lat.now c.args.grading.now c.args.budget c.args.book.now c.requires.book)
 
 pub loop-saturation-init : goal.loop-saturation-init
@@ -58,7 +60,7 @@ loop-saturation-preserved c =
 pub returns-in_err-saturate_column : goal.returns-in_err-saturate_column
 returns-in_err-saturate_column c =
     let fault = c.in_err-saturate_column.field-0.0 in
-    subst (λ (result : Result TheBasis RunStop). Solves c.args.lat.now c.args.grading.now c.args.budget result c.saturate_column.new.book)
+    subst (λ (result : Result TheList RunStop). Solves c.args.lat.now c.args.grading.now c.args.budget result c.saturate_column.new.book)
     (sym (the_error c.from_residual-in_err-saturate_column.result fault c.from_residual-in_err-saturate_column.ensures.1))
     (column_refused (rows_of c.args.lat.now) c.args.grading.now c.args.budget c.loop-saturation.saturation c.loop-saturation.book c.loop-saturation.invariant c.in-Some.job
     (next_job (goal.at.returns-in_err-saturate_column c).In-Some) c.args.lat.now refl c.saturate_column.new.saturation c.saturate_column.new.book fault c.in_err-saturate_column.ensures)
@@ -67,15 +69,39 @@ pub returns-in_err-saturated : goal.returns-in_err-saturated
 returns-in_err-saturated c =
     let fault = c.in_err-saturated.field-0.0 in
     let at = goal.at.returns-in_err-saturated c in
-    subst (λ (result : Result TheBasis RunStop). Solves c.args.lat.now c.args.grading.now c.args.budget result c.finish.new.book)
+    subst (λ (result : Result TheList RunStop). Solves c.args.lat.now c.args.grading.now c.args.budget result c.finish.new.book)
     (sym (the_error c.from_residual-in_err-saturated.result fault c.from_residual-in_err-saturated.ensures.1))
     (last_refused (rows_of c.args.lat.now) c.args.grading.now c.args.budget c.loop-saturation.saturation c.loop-saturation.book c.loop-saturation.invariant (none_left at.In_default)
     c.in_ok-job-2.job (last_job at.In_ok-job-2) c.args.lat.now refl c.finish.new.book fault c.in_err-saturated.ensures)
 
+-- every phase is ended
+reached_all : (c : In_ok-saturated) → NoneLeft c.loop-saturation.saturation.left →
+    IsJob c.loop-saturation.saturation.basis (standard (length c.loop-saturation.saturation.basis.grading)) (c.args.budget - settled_of c.loop-saturation.book.phases) c.in_ok-job-2.job →
+    IsReached (rows_of c.args.lat.now) c.args.grading.now c.args.budget (vectors_of c.in_ok-saturated.saturated.moves) c.in_ok-saturated.saturated c.finish.new.book []
+reached_all c none job =
+    all_done (rows_of c.args.lat.now) c.args.grading.now c.args.budget c.loop-saturation.saturation c.loop-saturation.book c.loop-saturation.invariant none
+    c.in_ok-job-2.job job c.in_ok-saturated.saturated c.finish.new.book c.in_ok-saturated.ensures
+
+pub returns-in_err-reduced : goal.returns-in_err-reduced
+returns-in_err-reduced c =
+    let fault = c.in_err-reduced.field-0.0 in
+    let at = goal.at.returns-in_err-reduced c in
+    subst (λ (result : Result TheList RunStop). Solves c.args.lat.now c.args.grading.now c.args.budget result c.reduce.new.book)
+    (sym (the_error c.from_residual-in_err-reduced.result fault c.from_residual-in_err-reduced.ensures.1))
+    (reduction_refused c.args.lat.now c.args.grading.now c.args.budget c.in_ok-saturated.saturated c.finish.new.book (reached_all at.In_ok-saturated (none_left at.In_default) (last_job at.In_ok-job-2))
+    fault c.reduce.new.book c.in_err-reduced.ensures)
+
+pub choose-requires : goal.choose-requires
+choose-requires c =
+    let at = goal.at.choose-requires c in
+    let reached = reached_all at.In_ok-saturated (none_left at.In_default) (last_job at.In_ok-job-2) in
+    sym (c.in_ok-reduced.ensures.0.grading ∙ reached.grading)
+
 pub returns : goal.returns
 returns c =
     let at = goal.at.returns c in
-    reduction_solves c.args.lat.now c.args.grading.now c.args.budget c.in_ok-saturated.saturated c.finish.new.book
-    (all_done (rows_of c.args.lat.now) c.args.grading.now c.args.budget c.loop-saturation.saturation c.loop-saturation.book c.loop-saturation.invariant (none_left at.In_default)
-    c.in_ok-job-2.job (last_job at.In_ok-job-2) c.in_ok-saturated.saturated c.finish.new.book c.in_ok-saturated.ensures)
-    c.reduce.result c.reduce.new.book c.reduce.ensures
+    let reached = reached_all at.In_ok-saturated (none_left at.In_default) (last_job at.In_ok-job-2) in
+    minimising_solves c.args.lat.now c.args.grading.now c.args.budget c.in_ok-saturated.saturated c.reduce.new.book
+    (subst (λ (b : Book). IsReached (rows_of c.args.lat.now) c.args.grading.now c.args.budget (vectors_of c.in_ok-saturated.saturated.moves) c.in_ok-saturated.saturated b [])
+    (sym c.in_ok-reduced.ensures.1) reached)
+    c.in_ok-reduced.reduced c.in_ok-reduced.ensures.0 c.choose.result c.choose.new.book c.choose.ensures

@@ -2,11 +2,9 @@
 use Rattle.std.specs.Prelude.{◌≡◌, ◌⊎◌, ℕ, ◌+◌, ◌≤◌, List, ◌++◌, length, take, Option, Some, None, IfSome, ℤ}
 use Rattle.std.specs.FinMap.{get, insert}
 use Rattle.mk_model.specs.Lattices.{IsGrading, IsChosenGrading}
-use Rattle.mk_model.specs.Bases.{IsMarkov}
-use Rattle.mk_model.specs.ReducedBases.{IsReducedBasis}
+use Rattle.mk_model.specs.Bases.{IsTheAnswer}
 use Rattle.mk_model.specs.Tables.{Grid, rows_of}
 use Rattle.mk_model.specs.Texts.{move_text}
-use Rattle.mk_move.specs.MoveLists.{vectors_of}
 use Rattle.mk_solve.specs.Books.{Book}
 use Rattle.mk_solve.specs.Solutions.{IsDone, HasStopped}
 use Rattle.mk_solve.specs.declared.book.BookStop.{BookStop}
@@ -30,14 +28,12 @@ pub record HasGrading (grid : Grid) (grading : List ℤ) : Type 0 where
   pub chosen : IsChosenGrading grid.columns (rows_of grid) grading
   pub positive : IsGrading grid.columns (rows_of grid) grading
 
--- The book is done with the lattice of a table's rows. The moves are the reduced basis that it keeps, and join every fibre.
+-- The book is done with the lattice of a table's rows, and the moves are the one answer there is for it.
 pub record IsAnswerOf (grid : Grid) (book : Book) (moves : List (List ℤ)) : Type 0 where
   pub grading : List ℤ
   pub graded : HasGrading grid grading
   pub done : IsDone (rows_of grid) grading book
-  pub kept : moves ≡ vectors_of done.basis.moves
-  pub reduced : IsReducedBasis grid.columns (rows_of grid) grading moves
-  pub markov : IsMarkov grid.columns (rows_of grid) moves
+  pub answer : IsTheAnswer grid.columns (rows_of grid) grading moves
 
 -- the lattice file is a table, to its end, and the moves are the answer for it
 pub record HasAnswer (file : Option (List ℕ)) (book : Book) (grid : Grid) (moves : List (List ℤ)) : Type 0 where

@@ -1,6 +1,7 @@
 //! A whole run: from the words and the files to the answer's file.
 #![tactic(auto)]
 
+mod answer;
 mod fault;
 mod faults;
 mod folder;
@@ -9,7 +10,6 @@ mod lines;
 mod memory_folder;
 mod names;
 mod real_folder;
-mod reduced;
 mod run;
 mod status;
 mod text;

@@ -8,11 +8,11 @@ ghost use Rattle.mk_run.specs.Runs.{default_budget, status_of, Ends, EndsUnnamed
 ghost use Rattle.mk_run.specs.Stages.{ReadsLattice, IsTableOf, Answers, WritesAnswer, RunHasCause, IsShown, IsBookOf, IsNotMaking};
 ghost use Rattle.mk_run.specs.Words.{NamesProject};
 
+use crate::answer::answer_text;
 use crate::fault::RunFault;
 use crate::folder::{Channel, DeskFault, Folder};
 use crate::lines::{self, input_line, stop_line};
 use crate::names::file_name;
-use crate::reduced::reduced_text;
 use crate::status::Status;
 use crate::transfer::{load, put_all, say_all};
 use crate::words::project_of;
@@ -32,11 +32,12 @@ const LATTICE_BOUNDS: Bounds = Bounds {
     most: ENTRY_MAX,
 };
 
-/// Reads the lattice of a project and writes its reduced basis, which is a Markov basis of it.
+/// Reads the lattice of a project and writes its essential moves, which are a minimal Markov basis of it.
 ///
-/// The words are those behind the program's name. `PROJECT.lat` is read, and `PROJECT.mar` made. The basis is the reduced
-/// one with all ones as grading (Sturmfels, chapters 5 and 12), the book keeps how it was found, and the status says how
-/// the run ended. A run that is refused says one line on the error channel and leaves the files as they were.
+/// The words are those behind the program's name. `PROJECT.lat` is read, and `PROJECT.mar` made. The moves are the essential
+/// ones with all ones as grading, ascending by move order (Sturmfels, chapters 5 and 12), the book keeps how they were found,
+/// and the status says how the run ended. A run that is refused says one line on the error channel and leaves the files as
+/// they were.
 pub fn run_alone<F: Folder>(
     alloc: Global,
     words: &[String],
@@ -101,7 +102,7 @@ fn answer<F: Folder>(
     ensures told { WhereTold (F.told folder.old) (F.told folder.new) (Answers project.now book.new result) }
 {
     let table = read_lattice(alloc, folder, project)?;
-    let text = reduced_text(alloc, &table, book)?;
+    let text = answer_text(alloc, &table, book)?;
     Ok(write_answer(alloc, folder, project, &text)?)
 }
 

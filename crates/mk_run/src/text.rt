@@ -7,21 +7,21 @@ ghost use Rattle.mk_model.specs.Texts.{header_line, move_line, move_text};
 ghost use Rattle.mk_move.specs.MoveLists.{vectors_of};
 
 use itoa::{Buffer, Integer};
-use mk_move::{Basis, Move};
+use mk_minimise::MinimalList;
+use mk_move::{Move, MoveList};
 use std::alloc::{AllocError, Global};
 
-/// The text of the moves of a basis, of so many columns each: a line with their number and that of the columns, and a line of
-/// entries for each.
-pub(crate) fn move_text(alloc: Global, columns: u32, basis: &Basis) -> Result<Vec<u8>, AllocError>
-    ensures { IfOk result (λ text. text.items ≡ move_text columns (vectors_of basis.now.moves)) }
+/// The text of a list of moves: a line with their number and that of the columns, and a line of entries for each.
+pub(crate) fn move_text(alloc: Global, list: &MinimalList) -> Result<Vec<u8>, AllocError>
+    ensures { IfOk result (λ text. text.items ≡ move_text list.now.columns (vectors_of list.now.moves)) }
 {
     let mut text = Vec::new(alloc);
-    push_number(&mut text, basis.len())?;
+    push_number(&mut text, list.len())?;
     text.push(b' ')?;
-    push_number(&mut text, columns)?;
+    push_number(&mut text, list.columns())?;
     text.push(b'\n')?;
-    for place in 0..basis.len() {
-        push_move(&mut text, basis.move_at(place))?;
+    for place in 0..list.len() {
+        push_move(&mut text, list.move_at(place))?;
     }
     Ok(text)
 }

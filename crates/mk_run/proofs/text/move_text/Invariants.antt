@@ -6,4 +6,4 @@ use Rattle.mk_run.proofs.text.move_text.Given as goal
 
 abbrev pub invariant-loop-place : goal.invariant-loop-place
 invariant-loop-place l =
-    l.text.items ≡ header_line (length l.basis.moves) l.columns ++ flat_map move_line (vectors_of (take l.place l.basis.moves))
+    l.text.items ≡ header_line (length l.list.moves) l.list.columns ++ flat_map move_line (vectors_of (take l.place l.list.moves))

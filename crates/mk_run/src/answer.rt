@@ -1,4 +1,4 @@
-//! The answer's text: that of the reduced basis.
+//! The answer's text: that of the essential moves.
 
 ghost use Rattle.std.specs.Prelude.{◌≡◌};
 ghost use Rattle.mk_solve.specs.Books.{empty_book};
@@ -14,9 +14,9 @@ use std::alloc::Global;
 /// How many pairs a run may settle.
 const DEFAULT_BUDGET: u64 = 20_000_000;
 
-/// The text of the reduced basis of the lattice of a table's rows, with all ones as grading. `NoGrading` where some row has
-/// a sum other than 0; `Stopped` where the book has a stop.
-pub(crate) fn reduced_text(
+/// The text of the essential moves of the lattice of a table's rows, with all ones as grading. `NoGrading` where some row has a
+/// sum other than 0; `Stopped` where the book has a stop.
+pub(crate) fn answer_text(
     alloc: Global,
     table: &Table,
     book: &mut RunBook,
@@ -26,6 +26,6 @@ pub(crate) fn reduced_text(
     ensures solved { SolvesTable table.now book.new result }
 {
     let grading = chosen_grading(alloc, table)?;
-    let reduced = solve_alone(alloc, table, &grading, DEFAULT_BUDGET, book)?;
-    Ok(move_text(alloc, table.columns(), reduced.basis())?)
+    let essential = solve_alone(alloc, table, &grading, DEFAULT_BUDGET, book)?;
+    Ok(move_text(alloc, &essential)?)
 }

@@ -1,17 +1,18 @@
-//! Solves the lattice in `P.lat`, for the grading of all ones, and says how many phases it took, how many pairs were settled and
-//! how many moves the reduced basis has. `bench/models.sh` times it.
+//! Solves the lattice in `P.lat`, for the grading of all ones, in the parts of `solve_alone`, and says a line as each part ends:
+//! what was settled in it and how many moves it gives. `bench/models.sh` times the parts by these lines.
 #![tactic(auto)]
 
 ghost use Rattle.std.specs.Prelude.{◌≡◌, All, IfSome, length, pos};
 ghost use Rattle.mk_model.specs.Tables.{rows_of};
 ghost use Rattle.mk_model.specs.Vectors.{weight};
 
+use mk_core::{SaturatedBasis, complete_alone};
 use mk_files::{Bounds, Table, read_table};
-use mk_inter::ReducedBasis;
+use mk_inter::reduce_tails;
+use mk_minimise::minimise;
 use mk_model::ENTRY_MAX;
-use mk_move::{Grading, Priority};
-use mk_saturate::start_basis;
-use mk_solve::{RunBook, solve_alone};
+use mk_move::{Grading, MoveList, Priority};
+use mk_saturate::{Saturation, start_basis};
 use std::alloc::Global;
 use std::process::ExitCode;
 use std::{fs, io};
@@ -23,10 +24,10 @@ const LIMITS: Bounds = Bounds {
     most: ENTRY_MAX,
 };
 
-/// How many pairs may be settled.
+/// How many pairs a phase may settle.
 const BUDGET: u64 = 100_000_000;
 
-/// The exit status is 0 once the line is said, 1 where `P.lat` can't be read or is no table of rows of sum 0, and 2 where the
+/// The exit status is 0 once every part is ended, 1 where `P.lat` can't be read or is no table of rows of sum 0, and 2 where the
 /// lattice isn't solved.
 fn main(rt: HostRuntime) -> io::Result<ExitCode> {
     let bytes = fs::read(&rt, "P.lat")?;
@@ -36,11 +37,13 @@ fn main(rt: HostRuntime) -> io::Result<ExitCode> {
     let Some(grading) = all_ones(rt.alloc(), &lat) else {
         return Ok(ExitCode::from(1));
     };
-    let mut book = RunBook::new(rt.alloc());
-    match solve_alone(rt.alloc(), &lat, &grading, BUDGET, &mut book) {
-        Ok(reduced) => say(&rt, &book, &reduced),
-        Err(_) => Ok(ExitCode::from(2)),
-    }
+    let Ok(saturation) = Saturation::start(rt.alloc(), &lat, &grading) else {
+        return Ok(ExitCode::from(2));
+    };
+    let Some(saturated) = saturate(&rt, saturation, lat.columns())? else {
+        return Ok(ExitCode::from(2));
+    };
+    choose(&rt, &saturated)
 }
 
 /// The grading of all ones, where each row has sum 0.
@@ -64,14 +67,73 @@ fn all_ones(alloc: Global, lat: &Table) -> Option<Grading>
     }
 }
 
-/// Says how many phases, pairs and moves there are.
-fn say(rt: &HostRuntime, book: &RunBook, reduced: &ReducedBasis) -> io::Result<ExitCode> {
-    let moves = reduced.basis().len();
-    println!(rt;
-        "phases {} pairs {} moves {}",
-        book.phase_count(),
-        book.settled(),
-        moves
-    )?;
+/// The saturated basis, once each column's phase and the last completion are ended, and none where one stops.
+fn saturate(
+    rt: &HostRuntime,
+    mut saturation: Saturation,
+    columns: u32,
+) -> io::Result<Option<SaturatedBasis>> {
+    let mut pairs: u64 = 0;
+    for _ in 0..columns {
+        let Some(settled) = saturate_next(rt.alloc(), &mut saturation) else {
+            return Ok(None);
+        };
+        pairs = pairs.saturating_add(settled);
+    }
+    println!(rt; "saturation {columns} phases {pairs} pairs")?;
+
+    let Some((saturated, settled)) = complete_last(rt.alloc(), &saturation) else {
+        return Ok(None);
+    };
+    let moves = saturated.basis().len();
+    println!(rt; "completion {settled} pairs {moves} moves")?;
+    Ok(Some(saturated))
+}
+
+/// Saturates the least column that is left, and tells how many pairs its phase settled.
+fn saturate_next(alloc: Global, saturation: &mut Saturation) -> Option<u64> {
+    let Ok(Some(job)) = saturation.next_job(alloc, BUDGET) else {
+        return None;
+    };
+    let Ok(completed) = complete_alone(alloc, job) else {
+        return None;
+    };
+    let settled = completed.phase().journal.len();
+    match saturation.accept(alloc, &completed) {
+        Ok(()) => Some(settled),
+        Err(_) => None,
+    }
+}
+
+/// The saturated basis that the last completion gives, where no column is left, and how many pairs it settled.
+fn complete_last(alloc: Global, saturation: &Saturation) -> Option<(SaturatedBasis, u64)> {
+    let Ok(None) = saturation.next_job(alloc, BUDGET) else {
+        return None;
+    };
+    let Ok(job) = saturation.final_job(alloc, BUDGET) else {
+        return None;
+    };
+    let Ok(completed) = complete_alone(alloc, job) else {
+        return None;
+    };
+    let settled = completed.phase().journal.len();
+    match saturation.finish(alloc, &completed) {
+        Ok(saturated) => Some((saturated, settled)),
+        Err(_) => None,
+    }
+}
+
+/// The reduced basis and its essential moves, each with a line.
+fn choose(rt: &HostRuntime, saturated: &SaturatedBasis) -> io::Result<ExitCode> {
+    let Ok(reduced) = reduce_tails(rt.alloc(), saturated) else {
+        return Ok(ExitCode::from(2));
+    };
+    let basis = reduced.basis();
+    println!(rt; "tails {} moves", basis.len())?;
+
+    let Ok(list) = minimise(rt.alloc(), &reduced, basis.grading()) else {
+        return Ok(ExitCode::from(2));
+    };
+    println!(rt; "minimising {} moves", list.len())?;
     Ok(ExitCode::SUCCESS)
 }

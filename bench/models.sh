@@ -1,7 +1,9 @@
 #!/usr/bin/env bash
-# Measures how long whole independence models take, given as files that are made here: 3 by 3 by 3 (no three-way
-# interaction) and 6 by 6. Each line has the model, the phases, the pairs, the moves of the reduced basis, the time of the
-# program `markov`, which writes them, and the time a pair.
+# Measures how long whole independence models take, given as files that are made here: 3 by 3 by 3 and 3 by 3 by 4 (no
+# three-way interaction), 6 by 6 and 8 by 8. Two lines for each: the model, the phases, the pairs, the moves of the reduced
+# basis and of the answer; then the seconds of each part, which the program SOLVE_BENCH goes through one after another and
+# says a line at the end of each, and those of the program `markov`, which does all of it and writes the answer.
+# Reading the file is in the first part's time.
 # Usage: bench/models.sh MARKOV SOLVE_BENCH [MODEL ..]
 # MARKOV is build/markov, SOLVE_BENCH is crates/solve_bench/out/solve_bench, and a MODEL is like 6x6 or 3x3x3.
 
@@ -9,11 +11,12 @@
 markov=$(realpath "$1")
 solve=$(realpath "$2")
 shift 2
-models=${*:-3x3x3 6x6}
+models=${*:-3x3x3 6x6 8x8 3x3x4}
 work=$(mktemp -d) || exit 2
 trap 'rm -rf "$work"' EXIT
 cd "$work" || exit 2
 export LC_ALL=C
+failed=0
 
 # The lattice of a model of two or three sizes: a move for each two neighbours in every direction, with the sign of the
 # number of second neighbours.
@@ -37,15 +40,35 @@ model() {
     }'
 }
 
+# Goes through the parts, each line with the microseconds since the one before in front.
+parts() {
+    local last=${EPOCHREALTIME/./} now line
+    "$solve" | while read -r line; do
+        now=${EPOCHREALTIME/./}
+        echo "$((now - last)) $line"
+        last=$now
+    done
+    return "${PIPESTATUS[0]}"
+}
+
 for name in $models; do
     model "$name" >P.lat
-    said=$("$solve") || { echo "$name: status $?" >&2; exit 1; }
+    parts >parts || { echo "$name: status $? of the parts" >&2; failed=1; continue; }
     begin=${EPOCHREALTIME/./}
-    "$markov" P || { echo "$name: status $?" >&2; exit 1; }
+    "$markov" P || { echo "$name: status $? of markov" >&2; failed=1; continue; }
     time=$((${EPOCHREALTIME/./} - begin))
-    awk -v name="$name" -v said="$said" -v time=$time 'BEGIN {
-        split(said, word, " ")
-        printf "%-6s phases %d, pairs %d, moves %d, %.3f s, %.3f us a pair\n", name, word[2], word[4], word[6],
-            time / 1e6, time / word[4]
-    }'
+    awk -v name="$name" -v whole=$time -v answer="$(head -n 1 P.mar)" '
+        { seconds[$2] = $1 / 1e6 }
+        $2 == "saturation" { phases = $3 + 1; pairs = $5 }
+        $2 == "completion" { pairs += $3 }
+        $2 == "tails" { reduced = $3 }
+        $2 == "minimising" { moves = $3 }
+        END {
+            split(answer, word, " ")
+            if (word[1] != moves) { print name ": an answer of " word[1] " moves for " moves; exit 1 }
+            printf "%-6s phases %d, pairs %d, moves of the reduced basis %d, of the answer %d\n", name, phases, pairs, reduced, moves
+            printf "       saturation %.3f s, completion %.3f s, tails %.3f s, minimising %.3f s, markov %.3f s\n",
+                seconds["saturation"], seconds["completion"], seconds["tails"], seconds["minimising"], whole / 1e6
+        }' parts || failed=1
 done
+exit $failed

@@ -118,11 +118,28 @@ answers '1 3\n0 0 0\n' '0 3\n'
 answers '0 0\n' '0 0\n'
 answers '1 2\n2 -2\n' '1 2\n2 -2\n'
 answers '1 8\n-1 1 1 -1 1 -1 -1 1\n' '1 8\n1 -1 -1 1 -1 1 1 -1\n'
-answers '2 4\n1 -2 1 0\n0 1 -2 1\n' '3 4\n0 -1 2 -1\n-1 1 1 -1\n-1 2 -1 0\n'
 answers '2 3\n1 -1 0\n0 1 -1\n' '2 3\n0 1 -1\n1 0 -1\n'
 answers '2 3\n2 -2 0\n0 2 -2\n' '2 3\n0 2 -2\n2 0 -2\n'
 answers '3 2\n1 -1\n2 -2\n1 -1\n' '1 2\n1 -1\n'
 answers '1 2\n9223372036854775807 -9223372036854775807\n' '1 2\n9223372036854775807 -9223372036854775807\n'
+
+# Lattices whose reduced basis has a move more, which isn't essential.
+answers '2 3\n3 -1 -2\n1 1 -2\n' '2 3\n1 1 -2\n2 -2 0\n'
+answers '2 4\n2 1 -3 0\n0 1 1 -2\n' '2 4\n0 1 1 -2\n2 1 -3 0\n'
+
+# Leads that overlap, each two of the rows'.
+answers '3 4\n1 1 -1 -1\n1 -1 1 -1\n1 -1 -1 1\n' '6 4\n0 0 2 -2\n-1 1 1 -1\n1 -1 1 -1\n0 2 0 -2\n1 1 -1 -1\n2 0 0 -2\n'
+
+# Several bases of one lattice: rows exchanged, negated, and replaced by sums.
+for basis in '1 -2 1 0\n0 1 -2 1' '0 1 -2 1\n1 -2 1 0' '-1 2 -1 0\n0 -1 2 -1' '1 -1 -1 1\n0 1 -2 1'; do
+    answers "2 4\n$basis\n" '3 4\n0 -1 2 -1\n-1 1 1 -1\n-1 2 -1 0\n'
+done
+
+# The same for tables of three rows and three columns with the same sums.
+nine_moves='9 9\n0 0 0 0 -1 1 0 1 -1\n0 -1 1 0 0 0 0 1 -1\n0 0 0 -1 0 1 1 0 -1\n0 0 0 -1 1 0 1 -1 0\n-1 0 1 0 0 0 1 0 -1\n-1 1 0 0 0 0 1 -1 0\n0 -1 1 0 1 -1 0 0 0\n-1 0 1 1 0 -1 0 0 0\n-1 1 0 1 -1 0 0 0 0\n'
+answers '4 9\n1 -1 0 -1 1 0 0 0 0\n0 1 -1 0 -1 1 0 0 0\n0 0 0 1 -1 0 -1 1 0\n0 0 0 0 1 -1 0 -1 1\n' "$nine_moves"
+answers '4 9\n1 0 -1 -1 0 1 0 0 0\n0 1 -1 0 -1 1 0 0 0\n0 0 0 1 -1 0 -1 1 0\n0 0 0 0 1 -1 0 -1 1\n' "$nine_moves"
+answers '4 9\n0 0 0 0 1 -1 0 -1 1\n0 -1 1 0 1 -1 0 0 0\n0 0 0 -1 1 0 1 -1 0\n1 -1 0 -1 1 0 0 0 0\n' "$nine_moves"
 
 refuses '1 2\n1 1\n' 'markov: P: no positive grading found'
 refuses '1 2\n9223372036854775808 -1\n' "$no_table"

@@ -5,9 +5,10 @@ ghost use Rattle.mk_model.specs.Vectors.{weight};
 use crate::bases::{LIMITS, assert_moves};
 use mk_core::{Job, complete_alone, drop_redundant};
 use mk_files::{Table, read_table};
-use mk_move::{Basis, Grading, Move, Priority};
+use mk_minimise::minimise;
+use mk_move::{Basis, Grading, Move, MoveList, Priority};
 use mk_saturate::{Saturation, start_basis};
-use mk_solve::{RunBook, solve_alone};
+use mk_solve::{MinimalList, RunBook, solve_alone};
 use std::alloc::AllocGlobal;
 use std::process::Abort;
 use std::test::Fail;
@@ -146,32 +147,58 @@ fn assert_weighed(rt: &impl Abort, basis: &Basis, place: u32, entries: &[i128], 
     assert_eq!(rt; m.weight(), weight);
 }
 
+// The list has these moves and no other.
+fn assert_listed(rt: &impl Abort, list: &MinimalList, moves: &[[i128; 3]]) {
+    assert_eq!(rt; list.columns(), 3);
+    assert_eq!(rt; list.len() as usize, moves.len());
+    for (place, entries) in moves.iter().enumerate() {
+        assert_entries(rt, list.move_at(place as u32), entries);
+    }
+}
+
+// The reduced basis, which the book keeps, and the two of its three moves that are essential.
 #[test]
-fn tails_are_reduced(rt: HostRuntime) -> Result<(), Fail> {
+fn tails_are_reduced_and_essential_moves_chosen(rt: HostRuntime) -> Result<(), Fail> {
     let lattice = graded_lattice(&rt, "2 3\n2 -1 0\n1 1 -1\n", &[1, 2, 3])?;
     let mut book = RunBook::new(rt.alloc());
-    let reduced = solve_alone(
+    let solved = solve_alone(
         rt.alloc(),
         &lattice.table,
         &lattice.grading,
         1000,
         &mut book,
     )?;
+    assert_listed(&rt, &solved, &[[2, -1, 0], [1, 1, -1]]);
+
+    let Some(reduced) = book.reduced() else {
+        panic!(&rt; "no reduced basis");
+    };
     let basis = reduced.basis();
     assert_eq!(rt; basis.len(), 3);
     assert_weighed(&rt, basis, 0, &[2, -1, 0], 2);
     assert_weighed(&rt, basis, 1, &[1, 1, -1], 3);
     assert_weighed(&rt, basis, 2, &[-1, 2, -1], 4);
+    let chosen = minimise(rt.alloc(), reduced, basis.grading())?;
+    assert_listed(&rt, &chosen, &[[2, -1, 0], [1, 1, -1]]);
     Ok(())
 }
 
 #[test]
-fn no_rows_give_an_empty_basis(rt: HostRuntime) -> Result<(), Fail> {
-    let lattice = graded_lattice(&rt, "0 4\n", &[1, 1, 1, 1])?;
+fn three_like_columns_are_solved(rt: HostRuntime) -> Result<(), Fail> {
+    let lattice = graded_lattice(&rt, "2 3\n1 -1 0\n0 1 -1\n", &[1, 1, 1])?;
     let mut book = RunBook::new(rt.alloc());
-    let reduced = solve_alone(rt.alloc(), &lattice.table, &lattice.grading, 0, &mut book)?;
-    assert_eq!(rt; reduced.basis().len(), 0);
-    assert_eq!(rt; book.phase_count(), 5);
+    let solved = solve_alone(rt.alloc(), &lattice.table, &lattice.grading, 100, &mut book)?;
+    assert_listed(&rt, &solved, &[[0, 1, -1], [1, 0, -1]]);
+    Ok(())
+}
+
+#[test]
+fn no_rows_give_no_moves(rt: HostRuntime) -> Result<(), Fail> {
+    let lattice = graded_lattice(&rt, "0 3\n", &[1, 1, 1])?;
+    let mut book = RunBook::new(rt.alloc());
+    let solved = solve_alone(rt.alloc(), &lattice.table, &lattice.grading, 0, &mut book)?;
+    assert_listed(&rt, &solved, &[]);
+    assert_eq!(rt; book.phase_count(), 4);
     assert_eq!(rt; book.settled(), 0);
     Ok(())
 }

@@ -143,21 +143,18 @@ fn answers_for_many_rows(rt: HostRuntime) -> Result<(), Fail> {
     Ok(())
 }
 
-// Reduced bases that were found by their definition, from lists of whole fibres: a vector that isn't the least of its fibre,
-// while all its proper divisors are, minus the least vector of its fibre.
+// Essential moves that were found by their definition, from lists of whole fibres: a move whose lead and tail aren't joined by
+// the moves before it. The second lattice and the fourth have a reduced basis of one move more.
 #[test]
 fn answers_as_lists_of_fibres_do(rt: HostRuntime) -> Result<(), Fail> {
     let rows = [
         ("1 3\n1 2 -3\n", "1 3\n1 2 -3\n"),
-        ("2 3\n3 -1 -2\n1 1 -2\n", "3 3\n1 1 -2\n2 -2 0\n-1 3 -2\n"),
+        ("2 3\n3 -1 -2\n1 1 -2\n", "2 3\n1 1 -2\n2 -2 0\n"),
         (
             "3 4\n1 1 -1 -1\n1 -1 1 -1\n1 -1 -1 1\n",
             "6 4\n0 0 2 -2\n-1 1 1 -1\n1 -1 1 -1\n0 2 0 -2\n1 1 -1 -1\n2 0 0 -2\n",
         ),
-        (
-            "2 4\n2 1 -3 0\n0 1 1 -2\n",
-            "3 4\n0 1 1 -2\n2 1 -3 0\n-2 0 4 -2\n",
-        ),
+        ("2 4\n2 1 -3 0\n0 1 1 -2\n", "2 4\n0 1 1 -2\n2 1 -3 0\n"),
         (
             "2 4\n2 -3 1 0\n0 2 -3 1\n",
             "3 4\n0 -2 3 -1\n-2 1 2 -1\n-2 3 -1 0\n",
@@ -169,15 +166,32 @@ fn answers_as_lists_of_fibres_do(rt: HostRuntime) -> Result<(), Fail> {
     Ok(())
 }
 
-// Tables of three rows and three columns with the same sums, the row `r` and column `c` of a table at `3 * r + c`: the
-// nine moves on two rows and two columns.
+// Several bases of one lattice have the same answer: rows exchanged, negated, and replaced by sums, of the twisted cubic and of
+// the tables of three rows and three columns with the same sums, the row `r` and column `c` of a table at `3 * r + c`.
 #[test]
-fn answers_for_independence(rt: HostRuntime) -> Result<(), Fail> {
-    assert_answered(
-        &rt,
+fn answers_are_the_same_for_each_basis(rt: HostRuntime) -> Result<(), Fail> {
+    let cubic = [
+        "2 4\n0 1 -2 1\n1 -2 1 0\n",
+        "2 4\n-1 2 -1 0\n0 -1 2 -1\n",
+        "2 4\n1 -1 -1 1\n0 1 -2 1\n",
+    ];
+    let independence = [
         "4 9\n1 -1 0 -1 1 0 0 0 0\n0 1 -1 0 -1 1 0 0 0\n0 0 0 1 -1 0 -1 1 0\n0 0 0 0 1 -1 0 -1 1\n",
-        "9 9\n0 0 0 0 -1 1 0 1 -1\n0 -1 1 0 0 0 0 1 -1\n0 0 0 -1 0 1 1 0 -1\n0 0 0 -1 1 0 1 -1 0\n-1 0 1 0 0 0 1 0 -1\n-1 1 0 0 0 0 1 -1 0\n0 -1 1 0 1 -1 0 0 0\n-1 0 1 1 0 -1 0 0 0\n-1 1 0 1 -1 0 0 0 0\n",
-    )
+        "4 9\n1 0 -1 -1 0 1 0 0 0\n0 1 -1 0 -1 1 0 0 0\n0 0 0 1 -1 0 -1 1 0\n0 0 0 0 1 -1 0 -1 1\n",
+        "4 9\n0 0 0 0 1 -1 0 -1 1\n0 -1 1 0 1 -1 0 0 0\n0 0 0 -1 1 0 1 -1 0\n1 -1 0 -1 1 0 0 0 0\n",
+    ];
+    let nine_moves =
+        "9 9\n0 0 0 0 -1 1 0 1 -1\n0 -1 1 0 0 0 0 1 -1\n0 0 0 -1 0 1 1 0 -1\n0 0 0 -1 1 0 1 -1 0\n-1 0 1 0 0 0 1 0 -1\n-1 1 0 0 0 0 1 -1 0\n0 -1 1 0 1 -1 0 0 0\n-1 0 1 1 0 -1 0 0 0\n-1 1 0 1 -1 0 0 0 0\n";
+    let rows = [
+        (cubic, "3 4\n0 -1 2 -1\n-1 1 1 -1\n-1 2 -1 0\n"),
+        (independence, nine_moves),
+    ];
+    for (bases, answer) in rows {
+        for lattice in bases {
+            assert_answered(&rt, lattice, answer)?;
+        }
+    }
+    Ok(())
 }
 
 // The first pair's difference has 2^63 + 2 in its second column.

@@ -1,0 +1,20 @@
+use Rattle.std.proofs.Common.{◌≡◌, ◌-◌, ◌≤◌, length, take}
+use Rattle.mk_desk.specs.Folders.{WhereTold, said}
+use Rattle.mk_desk.proofs.transfer.say_all.Given as goal
+
+abbrev pub invariant-loop-done : goal.invariant-loop-done
+invariant-loop-done g l =
+    let state = g.F.Folder.state in
+    let told = g.F.Folder.told in
+    record {
+      within : l.done ≤ length l.piece;
+      making : (state l.folder).making ≡ (state l.initial.folder).making;
+      found : (state l.folder).found ≡ (state l.initial.folder).found;
+      given : (state l.folder).given ≡ (state l.initial.folder).given;
+      later : (state l.initial.folder).faults ≤ (state l.folder).faults;
+      untouched : l.done ≡ 0 → l.folder ≡ l.initial.folder;
+      told : WhereTold (told l.initial.folder) (told l.folder) (λ before after. after ≡ said l.channel (take l.done l.piece) before);
+    }
+
+abbrev pub decreases-loop-done : goal.decreases-loop-done
+decreases-loop-done g l = length l.piece - l.done

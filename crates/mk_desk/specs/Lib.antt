@@ -1,0 +1,4 @@
+pub mod Folders
+pub mod MemoryFolders
+pub mod SureFolders
+pub mod Transfers

@@ -1,0 +1,15 @@
+//! A folder of files and two channels: its contract, one in memory, one over real files, and whole files over it.
+#![tactic(auto)]
+
+mod faults;
+mod folder;
+mod memory_folder;
+mod real_folder;
+mod sure_folder;
+mod transfer;
+
+pub use folder::{Channel, DeskFault, Folder, Found};
+pub use memory_folder::MemoryFolder;
+pub use real_folder::RealFolder;
+pub use sure_folder::{SureFolder, sure_folder_has_no_fault};
+pub use transfer::{LoadFault, load, put_all, say_all};

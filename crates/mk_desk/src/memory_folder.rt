@@ -1,0 +1,286 @@
+//! A folder in memory, some of whose calls fail.
+
+ghost use Rattle.std.specs.Prelude.{◌≡◌, ◌+◌, ◌<◌, ◌≤◌, ◌↔◌, min, IfOk, IfErr, IsErrOf};
+ghost use Rattle.std.specs.List.{Contains};
+ghost use Rattle.mk_desk.specs.Folders.{Rose, last_count};
+ghost use Rattle.mk_desk.specs.declared.folder.DeskFault.TheVariants.{Failed};
+
+use crate::faults::Faults;
+use crate::folder::{Channel, DeskFault, Folder, Found};
+use crate::sure_folder::SureFolder;
+use std::alloc::Global;
+use std::collections::BTreeMap;
+
+/// Files and two channels in memory, some of whose calls fail. It tells everything.
+///
+/// A call moves no more bytes than its chunk, and the n-th call fails, counted from 1 over all six methods, where its list of
+/// failing calls names n.
+#[derive(Drop)]
+pub struct MemoryFolder {
+    kept: SureFolder,
+    chunk: usize,
+    calls: Calls,
+    ghost moves: { 0 < chunk },
+}
+
+// How many calls there were, which of them fail, and how many did.
+#[derive(Drop)]
+struct Calls {
+    count: u64,
+    failing: Vec<u64>,
+    faults: Faults,
+}
+
+impl Calls {
+    // Begins a call, which fails where its number is named.
+    fn begin(&mut self) -> Result<(), DeskFault>
+        ensures count { self.new.count ≡ min (self.old.count + 1) last_count }
+        ensures failing { self.new.failing ≡ self.old.failing }
+        ensures failed { IsErrOf result Failed ↔ Contains self.old.failing.items self.new.count }
+        ensures fault { IfErr result (λ fault. fault ≡ Failed) }
+        ensures quiet { IfOk result (λ _. self.new.faults.count ≡ self.old.faults.count) }
+        ensures later { self.old.faults.count ≤ self.new.faults.count }
+        ensures rose { IsErrOf result Failed → Rose self.old.faults.count self.new.faults.count }
+    {
+        self.count = self.count.saturating_add(1);
+        if self.failing.contains(&self.count) {
+            return Err(self.faults.rise());
+        }
+        Ok(())
+    }
+}
+
+impl MemoryFolder {
+    ghost use Rattle.std.specs.Prelude.{[], ◌≡◌, ◌≤◌, None, false, OnOk, OnErr, option_copied};
+    ghost use Rattle.std.specs.FinMap.{get, len};
+    ghost use Rattle.mk_desk.specs.Folders.{said_on};
+    ghost use Rattle.mk_desk.specs.MemoryFolders.{desk_of, state_of, call_count, failing_calls, chunk_of};
+    ghost use Rattle.mk_desk.specs.SureFolders.{files_of};
+
+    /// No file is being made, and nothing was said.
+    pub fn new(
+        alloc: Global,
+        files: BTreeMap<String, Vec<u8>>,
+        failing: Vec<u64>,
+        chunk: usize,
+    ) -> MemoryFolder
+        requires { 1 ≤ chunk }
+        ensures desk { desk_of result ≡ record { files = files_of files; rest = []; made_name = []; made = []; out = []; errors = [] } }
+        ensures state { state_of result ≡ record { making = false; found = None; given = 0; faults = 0 } }
+        ensures calls { (call_count result ≡ 0) × (failing_calls result ≡ failing.items) × (chunk_of result ≡ chunk) }
+    {
+        MemoryFolder {
+            kept: SureFolder::new(alloc, files),
+            chunk,
+            calls: Calls {
+                count: 0,
+                failing,
+                faults: Faults::new(),
+            },
+        }
+    }
+
+    /// The bytes of a file.
+    pub fn file(&self, name: &str) -> Option<&[u8]>
+        ensures { option_copied result ≡ get (desk_of self.now).files name.now }
+    {
+        self.kept.file(name)
+    }
+
+    /// How many files there are.
+    pub fn len(&self) -> usize
+        ensures { result ≡ len (desk_of self.now).files }
+    {
+        self.kept.len()
+    }
+
+    /// The bytes of the file being made, or last made.
+    pub fn made(&self) -> &[u8]
+        ensures { result.now ≡ (desk_of self.now).made }
+    {
+        self.kept.made()
+    }
+
+    /// What was said on a channel.
+    pub fn said(&self, channel: Channel) -> &[u8]
+        ensures { result.now ≡ said_on channel (desk_of self.now) }
+    {
+        self.kept.said(channel)
+    }
+
+    /// How many calls there were.
+    pub fn calls(&self) -> u64
+        ensures { result ≡ call_count self.now }
+    {
+        self.calls.count
+    }
+
+    /// How many of them failed.
+    pub fn faults(&self) -> u64
+        ensures { result ≡ (state_of self.now).faults }
+    {
+        self.calls.faults.count
+    }
+}
+
+// Beside what every folder does, each call is counted, fails exactly where it is named, and moves no more than the chunk.
+impl Folder for MemoryFolder {
+    ghost use Rattle.std.specs.Prelude.{Some, true, false, length, is_ok};
+    ghost use Rattle.std.specs.Result.{result_ok};
+    ghost use Rattle.mk_desk.specs.declared.folder.Found.TheVariants.{Here};
+    ghost use Rattle.mk_desk.specs.Folders.{HasCause, StartsReading, Reads, StartsWriting, Writes, EndsWriting, Says, given_after};
+    ghost use Rattle.mk_desk.specs.MemoryFolders.{desk_of, state_of, chunk_of, IsNextCall};
+
+    ghost told = { λ folder. Some (desk_of folder) };
+
+    ghost state = { state_of };
+
+    fn start_read(&mut self, name: &str) -> Result<Found, DeskFault>
+        ensures state { state_of self.new
+            ≡ record (state_of self.old) { found = result_ok result; given = 0; faults = (state_of self.new).faults } }
+        ensures desk { StartsReading name.now result (desk_of self.old) (desk_of self.new) }
+        ensures cause { HasCause (state_of self.old) (state_of self.new) result }
+        ensures call { IsNextCall self.old self.new result }
+    {
+        self.kept.end_reading();
+        self.calls.begin()?;
+        self.kept.start_read(name)
+    }
+
+    fn read(&mut self, into: &mut [u8]) -> Result<usize, DeskFault>
+        requires here { (state_of self.old).found ≡ Some Here }
+        requires room { 0 < length into.old }
+        ensures within { IfOk result (λ n. n ≤ min (length into.old) (chunk_of self.old)) }
+        ensures state { state_of self.new
+            ≡ record (state_of self.old) { given = given_after (state_of self.old).given result; faults = (state_of self.new).faults } }
+        ensures desk { Reads into.new result (desk_of self.old) (desk_of self.new) }
+        ensures cause { HasCause (state_of self.old) (state_of self.new) result }
+        ensures call { IsNextCall self.old self.new result }
+    {
+        self.calls.begin()?;
+        let most = into.len().min(self.chunk);
+        self.kept.read(&mut into[..most])
+    }
+
+    fn start_write(&mut self, name: &str) -> Result<(), DeskFault>
+        requires { (state_of self.old).making ≡ false }
+        ensures state { state_of self.new
+            ≡ record (state_of self.old) { making = is_ok result; faults = (state_of self.new).faults } }
+        ensures desk { StartsWriting name.now result (desk_of self.old) (desk_of self.new) }
+        ensures cause { HasCause (state_of self.old) (state_of self.new) result }
+        ensures call { IsNextCall self.old self.new result }
+    {
+        self.calls.begin()?;
+        self.kept.start_write(name)
+    }
+
+    fn write(&mut self, piece: &[u8]) -> Result<usize, DeskFault>
+        requires making { (state_of self.old).making ≡ true }
+        requires some { 0 < length piece.now }
+        ensures within { IfOk result (λ n. (0 < n) × (n ≤ min (length piece.now) (chunk_of self.old))) }
+        ensures state { state_of self.new ≡ record (state_of self.old) { faults = (state_of self.new).faults } }
+        ensures desk { Writes piece.now result (desk_of self.old) (desk_of self.new) }
+        ensures cause { HasCause (state_of self.old) (state_of self.new) result }
+        ensures call { IsNextCall self.old self.new result }
+    {
+        self.calls.begin()?;
+        let most = piece.len().min(self.chunk);
+        self.kept.write(&piece[..most])
+    }
+
+    fn end_write(&mut self) -> Result<(), DeskFault>
+        requires { (state_of self.old).making ≡ true }
+        ensures state { state_of self.new
+            ≡ record (state_of self.old) { making = false; faults = (state_of self.new).faults } }
+        ensures desk { EndsWriting result (desk_of self.old) (desk_of self.new) }
+        ensures cause { HasCause (state_of self.old) (state_of self.new) result }
+        ensures call { IsNextCall self.old self.new result }
+    {
+        if let Err(fault) = self.calls.begin() {
+            self.kept.end_making();
+            return Err(fault);
+        }
+        self.kept.end_write()
+    }
+
+    fn say(&mut self, channel: Channel, piece: &[u8]) -> Result<usize, DeskFault>
+        requires { 0 < length piece.now }
+        ensures within { IfOk result (λ n. (0 < n) × (n ≤ min (length piece.now) (chunk_of self.old))) }
+        ensures state { state_of self.new ≡ record (state_of self.old) { faults = (state_of self.new).faults } }
+        ensures desk { Says channel piece.now result (desk_of self.old) (desk_of self.new) }
+        ensures cause { HasCause (state_of self.old) (state_of self.new) result }
+        ensures call { IsNextCall self.old self.new result }
+    {
+        self.calls.begin()?;
+        let most = piece.len().min(self.chunk);
+        self.kept.say(channel, &piece[..most])
+    }
+}
+
+#[cfg(test)]
+mod tests {
+    use super::*;
+    use std::alloc::AllocError;
+    use std::test::Fail;
+
+    // One file of five bytes.
+    fn five(alloc: Global) -> Result<BTreeMap<String, Vec<u8>>, AllocError> {
+        let mut files = BTreeMap::new(alloc);
+        let name = String::from_str(alloc, "five")?;
+        files.insert(name, Vec::from_slice(alloc, b"12345")?)?;
+        Ok(files)
+    }
+
+    #[test]
+    fn missing_name_is_absent(rt: HostRuntime) -> Result<(), Fail> {
+        let failing = vec![in rt.alloc(); 0]?;
+        let mut folder = MemoryFolder::new(rt.alloc(), five(rt.alloc())?, failing, 1);
+        assert_eq!(rt; folder.start_read("six")?, Found::Absent);
+        assert_eq!(rt; folder.start_read("five")?, Found::Here);
+        Ok(())
+    }
+
+    #[test]
+    fn made_file_appears_at_the_end(rt: HostRuntime) -> Result<(), Fail> {
+        let failing = vec![in rt.alloc(); 0]?;
+        let mut folder = MemoryFolder::new(rt.alloc(), five(rt.alloc())?, failing, 1);
+        folder.start_write("new")?;
+        assert_eq!(rt; folder.write(b"ab")?, 1);
+        assert_eq!(rt; folder.write(b"b")?, 1);
+        assert_eq!(rt; folder.file("new"), None);
+        folder.end_write()?;
+        assert_eq!(rt; folder.file("new"), Some(b"ab".as_slice()));
+        assert_eq!(rt; folder.file("five"), Some(b"12345".as_slice()));
+        assert_eq!(rt; folder.len(), 2);
+        assert_eq!(rt; folder.calls(), 4);
+        Ok(())
+    }
+
+    #[test]
+    fn named_call_fails_alone(rt: HostRuntime) -> Result<(), Fail> {
+        let failing = vec![in rt.alloc(); 3]?;
+        let mut folder = MemoryFolder::new(rt.alloc(), five(rt.alloc())?, failing, 2);
+        folder.start_write("five")?;
+        assert_eq!(rt; folder.write(b"ab")?, 2);
+        assert_eq!(rt; folder.write(b"c"), Err(DeskFault::Failed));
+        assert_eq!(rt; folder.made(), b"ab".as_slice());
+        assert_eq!(rt; folder.faults(), 1);
+        assert_eq!(rt; folder.write(b"c")?, 1);
+        assert_eq!(rt; folder.file("five"), Some(b"12345".as_slice()));
+        folder.end_write()?;
+        assert_eq!(rt; folder.file("five"), Some(b"abc".as_slice()));
+        Ok(())
+    }
+
+    #[test]
+    fn channels_are_apart(rt: HostRuntime) -> Result<(), Fail> {
+        let failing = vec![in rt.alloc(); 2]?;
+        let mut folder = MemoryFolder::new(rt.alloc(), five(rt.alloc())?, failing, 8);
+        assert_eq!(rt; folder.say(Channel::Out, b"out")?, 3);
+        assert_eq!(rt; folder.say(Channel::Out, b"lost"), Err(DeskFault::Failed));
+        assert_eq!(rt; folder.say(Channel::Err, b"err")?, 3);
+        assert_eq!(rt; folder.said(Channel::Out), b"out".as_slice());
+        assert_eq!(rt; folder.said(Channel::Err), b"err".as_slice());
+        Ok(())
+    }
+}

@@ -1,0 +1,272 @@
+//! Whole files and whole pieces over a folder, which may move only some bytes at each call.
+
+ghost use Rattle.std.specs.Prelude.{◌≡◌, ◌+◌, ◌-◌, ◌<◌, ◌≤◌, ◌^◌, ◌↔◌, ℕ, true, [], vec_len, IfOk, IfSome, IsOk, IsErrOf};
+ghost use Rattle.mk_desk.specs.Folders.{HasCause, WhereTold, last_count};
+ghost use Rattle.mk_desk.specs.Transfers.{LoadHasCause, Loads, ReadsRest, PutsAll, SaysAll, passed_on};
+ghost use Rattle.mk_desk.specs.declared.folder.Found.TheVariants.{Here, Absent};
+ghost use Rattle.mk_desk.specs.declared.transfer.LoadFault.TheVariants.{Memory, FileSize};
+
+use crate::folder::{Channel, DeskFault, Folder, Found};
+use std::alloc::{AllocError, Global};
+use thiserror::Error;
+
+/// Why a file was not loaded. A file that is longer than it may be says how many of its bytes were read.
+#[derive(Clone, Copy, Debug, PartialEq, Eq, Error)]
+pub enum LoadFault {
+    #[error("out of memory")]
+    Memory,
+    #[error("a file failed")]
+    Failed,
+    #[error("the file is too long, after {read} bytes")]
+    FileSize { read: u64 },
+}
+
+impl From<DeskFault> for LoadFault {
+    ghost from_gives = { λ fault given. given ≡ passed_on fault };
+
+    fn from(fault: DeskFault) -> LoadFault {
+        match fault {
+            DeskFault::Memory => LoadFault::Memory,
+            DeskFault::Failed => LoadFault::Failed,
+        }
+    }
+}
+
+impl From<AllocError> for LoadFault {
+    ghost from_gives = { λ _ given. given ≡ Memory };
+
+    fn from(_fault: AllocError) -> LoadFault {
+        LoadFault::Memory
+    }
+}
+
+/// How many bytes a folder is asked for at a time.
+const BUFFER: usize = 65536;
+
+/// Reads a whole file, or answers None where no file has the name.
+///
+/// `FileSize` where the file is longer than the limit, once one byte more than that was read; `Failed` where the folder
+/// failed; `Memory` where memory ran out.
+pub fn load<F: Folder>(
+    alloc: Global,
+    folder: &mut F,
+    name: &str,
+    limit: u64,
+) -> Result<Option<Vec<u8>>, LoadFault>
+    requires { limit < last_count }
+    ensures none { (result ≡ Ok None) ↔ ((F.state folder.new).found ≡ Some Absent) }
+    ensures whole { IfOk result (λ file. IfSome file (λ bytes. ((F.state folder.new).given ≡ vec_len bytes) × (vec_len bytes ≤ limit))) }
+    ensures size { (result ≡ Err (FileSize (limit + 1))) ↔ ((F.state folder.new).given ≡ limit + 1) }
+    ensures one_size { (read : ℕ) → IsErrOf result (FileSize read) → read ≡ limit + 1 }
+    ensures here { IfOk result (λ file. IfSome file (λ _. (F.state folder.new).found ≡ Some Here)) }
+    ensures size_here { (read : ℕ) → IsErrOf result (FileSize read) → (F.state folder.new).found ≡ Some Here }
+    ensures absent { result ≡ Ok None → (F.state folder.new).given ≡ 0 }
+    ensures making { (F.state folder.new).making ≡ (F.state folder.old).making }
+    ensures cause { LoadHasCause (F.state folder.old) (F.state folder.new) result }
+    ensures told { WhereTold (F.told folder.old) (F.told folder.new) (Loads name.now limit result) }
+{
+    match folder.start_read(name)? {
+        Found::Absent => Ok(None),
+        Found::Here => Ok(Some(read_rest(alloc, folder, limit)?)),
+    }
+}
+
+// Reads what is left of the file, if it is no longer than the limit.
+fn read_rest<F: Folder>(alloc: Global, folder: &mut F, limit: u64) -> Result<Vec<u8>, LoadFault>
+    requires limit { limit < last_count }
+    requires here { (F.state folder.old).found ≡ Some Here }
+    requires given { (F.state folder.old).given ≡ 0 }
+    ensures here { (F.state folder.new).found ≡ Some Here }
+    ensures whole { IfOk result (λ bytes. ((F.state folder.new).given ≡ vec_len bytes) × (vec_len bytes ≤ limit)) }
+    ensures size { (result ≡ Err (FileSize (limit + 1))) ↔ ((F.state folder.new).given ≡ limit + 1) }
+    ensures one_size { (read : ℕ) → IsErrOf result (FileSize read) → read ≡ limit + 1 }
+    ensures making { (F.state folder.new).making ≡ (F.state folder.old).making }
+    ensures cause { LoadHasCause (F.state folder.old) (F.state folder.new) result }
+    ensures told { WhereTold (F.told folder.old) (F.told folder.new) (ReadsRest limit result) }
+{
+    let mut bytes = Vec::new(alloc);
+    let mut buffer = vec![in alloc; 0u8; BUFFER]?;
+    loop {
+        let left = limit + 1 - bytes.len() as u64;
+        let part = &mut buffer[..left.min(BUFFER as u64) as usize];
+        let count = folder.read(part)?;
+        if count == 0 {
+            return Ok(bytes);
+        }
+        if count as u64 == left {
+            return Err(LoadFault::FileSize { read: limit + 1 });
+        }
+        bytes.extend_from_slice(&part[..count])?;
+    }
+}
+
+/// Appends a whole piece to the file being made. An empty piece takes no call.
+///
+/// An error is the folder's: then a prefix of the piece was appended.
+pub fn put_all<F: Folder>(folder: &mut F, piece: &[u8]) -> Result<(), DeskFault>
+    requires { (F.state folder.old).making ≡ true }
+    ensures making { (F.state folder.new).making ≡ true }
+    ensures found { (F.state folder.new).found ≡ (F.state folder.old).found }
+    ensures given { (F.state folder.new).given ≡ (F.state folder.old).given }
+    ensures cause { HasCause (F.state folder.old) (F.state folder.new) result }
+    ensures empty { piece.now ≡ [] → IsOk result × (folder.new ≡ folder.old) }
+    ensures told { WhereTold (F.told folder.old) (F.told folder.new) (PutsAll piece.now result) }
+{
+    let mut done = 0;
+    while done < piece.len() {
+        done += folder.write(&piece[done..])?;
+    }
+    Ok(())
+}
+
+/// Says a whole piece on a channel. An empty piece takes no call.
+///
+/// An error is the folder's: then a prefix of the piece was said.
+pub fn say_all<F: Folder>(folder: &mut F, channel: Channel, piece: &[u8]) -> Result<(), DeskFault>
+    ensures making { (F.state folder.new).making ≡ (F.state folder.old).making }
+    ensures found { (F.state folder.new).found ≡ (F.state folder.old).found }
+    ensures given { (F.state folder.new).given ≡ (F.state folder.old).given }
+    ensures cause { HasCause (F.state folder.old) (F.state folder.new) result }
+    ensures empty { piece.now ≡ [] → IsOk result × (folder.new ≡ folder.old) }
+    ensures told { WhereTold (F.told folder.old) (F.told folder.new) (SaysAll channel piece.now result) }
+{
+    let mut done = 0;
+    while done < piece.len() {
+        done += folder.say(channel, &piece[done..])?;
+    }
+    Ok(())
+}
+
+#[cfg(test)]
+mod tests {
+    use super::*;
+    use crate::memory_folder::MemoryFolder;
+    use std::collections::BTreeMap;
+    use std::process::Abort;
+    use std::test::Fail;
+
+    // Files of four and of five bytes.
+    fn two_files(alloc: Global) -> Result<BTreeMap<String, Vec<u8>>, AllocError> {
+        let mut files = BTreeMap::new(alloc);
+        let four = String::from_str(alloc, "four")?;
+        files.insert(four, Vec::from_slice(alloc, b"1234")?)?;
+        let five = String::from_str(alloc, "five")?;
+        files.insert(five, Vec::from_slice(alloc, b"12345")?)?;
+        Ok(files)
+    }
+
+    #[test]
+    fn loads_up_to_the_limit(rt: HostRuntime) -> Result<(), Fail> {
+        let failing = vec![in rt.alloc(); 0]?;
+        let mut folder = MemoryFolder::new(rt.alloc(), two_files(rt.alloc())?, failing, 3);
+        let four = load(rt.alloc(), &mut folder, "four", 4)?.ok_or("none")?;
+        assert_eq!(rt; four.as_slice(), b"1234".as_slice());
+        let five = load(rt.alloc(), &mut folder, "five", 4);
+        assert_eq!(rt; five, Err(LoadFault::FileSize { read: 5 }));
+        assert_eq!(rt; load(rt.alloc(), &mut folder, "six", 4), Ok(None));
+        let failing = vec![in rt.alloc(); 2]?;
+        let mut folder = MemoryFolder::new(rt.alloc(), two_files(rt.alloc())?, failing, 3);
+        let failed = load(rt.alloc(), &mut folder, "four", 4);
+        assert_eq!(rt; failed, Err(LoadFault::Failed));
+        Ok(())
+    }
+
+    // Over a file of 65,540 bytes in a folder of large chunks, a load with this limit ends by the last of so many calls.
+    fn load_long(
+        rt: &(impl Abort + AllocGlobal),
+        limit: u64,
+        is_loaded: bool,
+        calls: u64,
+    ) -> Result<(), Fail>
+        requires { limit < last_count }
+    {
+        let mut files = BTreeMap::new(rt.alloc());
+        let name = String::from_str(rt.alloc(), "long")?;
+        files.insert(name, vec![in rt.alloc(); 7u8; 65540]?)?;
+        let failing = vec![in rt.alloc(); 0]?;
+        let mut folder = MemoryFolder::new(rt.alloc(), files, failing, 1_000_000);
+        let answer = load(rt.alloc(), &mut folder, "long", limit);
+        assert_eq!(rt; answer.is_ok(), is_loaded, "limit {limit}");
+        assert_eq!(rt; folder.calls(), calls, "limit {limit}");
+        Ok(())
+    }
+
+    #[test]
+    fn load_asks_for_a_buffer_at_a_time(rt: HostRuntime) -> Result<(), Fail> {
+        load_long(&rt, 65_540, true, 4)?;
+        load_long(&rt, 65_539, false, 3)?;
+        load_long(&rt, 65_535, false, 2)
+    }
+
+    // Loads five bytes, which takes so many calls, with each of them failing in turn.
+    fn load_with_faults(
+        rt: &(impl Abort + AllocGlobal),
+        chunk: usize,
+        calls: u64,
+    ) -> Result<(), Fail>
+        requires { 1 ≤ chunk }
+    {
+        for failing in 1..=calls {
+            let fails = vec![in rt.alloc(); failing]?;
+            let mut folder = MemoryFolder::new(rt.alloc(), two_files(rt.alloc())?, fails, chunk);
+            let answer = load(rt.alloc(), &mut folder, "five", 5);
+            assert_eq!(rt; answer, Err(LoadFault::Failed), "call {failing} fails");
+            assert_eq!(rt; folder.faults(), 1);
+        }
+        let failing = vec![in rt.alloc(); 0]?;
+        let mut folder = MemoryFolder::new(rt.alloc(), two_files(rt.alloc())?, failing, chunk);
+        let five = load(rt.alloc(), &mut folder, "five", 5)?.ok_or("none")?;
+        assert_eq!(rt; five.as_slice(), b"12345".as_slice());
+        assert_eq!(rt; folder.calls(), calls);
+        Ok(())
+    }
+
+    #[test]
+    fn load_fails_at_each_call(rt: HostRuntime) -> Result<(), Fail> {
+        load_with_faults(&rt, 1, 7)?;
+        load_with_faults(&rt, 1_000_000, 3)
+    }
+
+    // Puts and then says "abc", where one write or one call of `say` fails.
+    fn send(
+        rt: &(impl Abort + AllocGlobal),
+        chunk: usize,
+        failing: u64,
+        want: &str,
+    ) -> Result<(), Fail>
+        requires { 1 ≤ chunk }
+    {
+        let fails = vec![in rt.alloc(); failing.saturating_add(1)]?;
+        let mut folder = MemoryFolder::new(rt.alloc(), two_files(rt.alloc())?, fails, chunk);
+        folder.start_write("new")?;
+        let put = put_all(&mut folder, b"abc");
+        assert_eq!(rt; put.is_ok(), want == "abc", "call {failing} fails");
+        assert_eq!(rt; folder.made(), want.as_bytes());
+        let fails = vec![in rt.alloc(); failing]?;
+        let mut folder = MemoryFolder::new(rt.alloc(), two_files(rt.alloc())?, fails, chunk);
+        let said = say_all(&mut folder, Channel::Err, b"abc");
+        assert_eq!(rt; said.is_ok(), want == "abc", "call {failing} fails");
+        assert_eq!(rt; folder.said(Channel::Err), want.as_bytes());
+        assert_eq!(rt; folder.said(Channel::Out), b"".as_slice());
+        Ok(())
+    }
+
+    #[test]
+    fn a_refused_piece_leaves_its_front(rt: HostRuntime) -> Result<(), Fail> {
+        send(&rt, 1, 1, "")?;
+        send(&rt, 1, 2, "a")?;
+        send(&rt, 1, 3, "ab")?;
+        send(&rt, 1, 4, "abc")?;
+        send(&rt, 1_000_000, 1, "")?;
+        send(&rt, 1_000_000, 2, "abc")
+    }
+
+    #[test]
+    fn an_empty_piece_takes_no_call(rt: HostRuntime) -> Result<(), Fail> {
+        let failing = vec![in rt.alloc(); 1]?;
+        let mut folder = MemoryFolder::new(rt.alloc(), two_files(rt.alloc())?, failing, 1);
+        say_all(&mut folder, Channel::Out, b"")?;
+        assert_eq!(rt; folder.calls(), 0);
+        Ok(())
+    }
+}

@@ -38,3 +38,9 @@ pub mod VectorExamples
 pub mod WalkExamples
 pub mod AnswerExamples
 pub mod TableExamples
+pub mod TokenNumbers
+pub mod TokenPlaces
+pub mod TokenCuts
+pub mod TableFaultLaws
+pub mod TableFaultFound
+pub mod TableFaultExamples

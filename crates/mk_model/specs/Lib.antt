@@ -4,6 +4,8 @@ pub mod Walks
 pub mod Orders
 pub mod Bases
 pub mod Tables
+pub mod TableFaults
+pub mod ChosenGradings
 pub mod Texts
 pub mod Reductions
 pub mod Pairs

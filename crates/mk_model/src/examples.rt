@@ -7,6 +7,8 @@ ghost use Rattle.mk_model.specs.Walks.{Joined, Members};
 ghost use Rattle.mk_model.specs.Orders.{standard, IsOriented, IsBelow, ComesBefore};
 ghost use Rattle.mk_model.specs.Bases.{IsMarkov, AreApart, IsTheAnswer};
 ghost use Rattle.mk_model.specs.Tables.{tokens, Grid, rows_of, Limits, ReadsTable};
+ghost use Rattle.mk_model.specs.TableFaults.{line_of, HasFault};
+ghost use Rattle.mk_model.specs.TableFaults.{NoHeader, BadNumber, Rows, Columns, EntryRange, Missing, Trailing};
 ghost use Rattle.mk_model.specs.Texts.{move_text};
 ghost use Rattle.mk_model.specs.Reductions.{Reduct};
 ghost use Rattle.mk_model.specs.Saturation.{drop_redundant};
@@ -82,6 +84,21 @@ pub fn table_examples()
         ≡ (pos 1 ∷ neg_ℤ (pos 1) ∷ []) ∷ (pos 0 ∷ pos 0 ∷ []) ∷ [] }
     ensures nothing { (limits : Limits) (grid : Grid) → ¬ (ReadsTable [] limits grid) }
     ensures minus { (limits : Limits) (grid : Grid) → ¬ (ReadsTable (codes "-1 2") limits grid) }
+{}
+
+/// Texts with each fault, some of them for a table of at most one row of two columns with entries from 0 to 9.
+pub fn table_fault_examples()
+    ensures no_header { (limits : Limits) → HasFault [] limits (NoHeader 0) 0 }
+    ensures bad_number { (limits : Limits) → HasFault (codes "-1 2") limits BadNumber 0 }
+    ensures rows { HasFault (codes "2 0") (record { rows = 1; columns = 2; least = pos 0; most = pos 9 }) Rows 0 }
+    ensures columns { HasFault (codes "1 3") (record { rows = 1; columns = 2; least = pos 0; most = pos 9 }) Columns 2 }
+    ensures entry_range { HasFault (codes "1 2" ++ 10 ∷ codes "5 -1")
+        (record { rows = 1; columns = 2; least = pos 0; most = pos 9 }) EntryRange 6 }
+    ensures line { line_of (codes "1 2" ++ 10 ∷ codes "5 -1") 6 ≡ 2 }
+    ensures missing { HasFault (codes "1 2" ++ 10 ∷ codes "5" ++ 10 ∷ [])
+        (record { rows = 1; columns = 2; least = pos 0; most = pos 9 }) (Missing 1 2) 6 }
+    ensures trailing { HasFault (codes "0 2" ++ 10 ∷ codes "x")
+        (record { rows = 1; columns = 2; least = pos 0; most = pos 9 }) Trailing 4 }
 {}
 
 /// The texts of two moves of 3 columns, and of none of 4.

@@ -1,6 +1,8 @@
 //! The laws of the definitions. Each is the contract of a function that takes nothing and gives nothing.
 
 ghost use Rattle.std.specs.Prelude.{◌≡◌, ◌⊎◌, ℕ, ℤ, List, [], ◌∷◌, ◌++◌, length, ◌≤◌, Bool, IsTrue, All, Contains, pos, ◌≤ℤ◌, ◌↔◌};
+ghost use Rattle.mk_model.specs.Tables.{Grid, Limits, ReadsTable};
+ghost use Rattle.mk_model.specs.TableFaults.{Fault, HasFault};
 ghost use Rattle.mk_model.specs.Vectors.{negate, entry, zeros, add, subtract, negative_part, IsPoint};
 ghost use Rattle.mk_model.specs.Lattices.{IsGrading, nonzero_rows, InLattice};
 ghost use Rattle.mk_model.specs.Walks.{Joined, Members};
@@ -172,4 +174,16 @@ pub fn ended_is_joined()
     ensures joined { (n : ℕ) (rows : List (List ℤ)) (w : List ℤ) (priority : List ℕ) (state : CoreState) →
         IsLegal n priority state → AreOrientedMoves n rows w priority (start_of state) → IsEnded state →
         EveryPairJoined n priority state.basis }
+{}
+
+/// Each text is one table, or has one fault, at one byte.
+pub fn each_text_is_a_table_or_has_a_fault()
+    ensures either { (bytes : List ℕ) (limits : Limits) →
+        ((grid : Grid) × ReadsTable bytes limits grid) ⊎ ((fault : Fault) × (byte : ℕ) × HasFault bytes limits fault byte) }
+    ensures not_both { (bytes : List ℕ) (limits : Limits) (grid : Grid) (fault : Fault) (byte : ℕ) →
+        ReadsTable bytes limits grid → ¬ (HasFault bytes limits fault byte) }
+    ensures one_table { (bytes : List ℕ) (limits : Limits) (grid other : Grid) →
+        ReadsTable bytes limits grid → ReadsTable bytes limits other → grid ≡ other }
+    ensures one_fault { (bytes : List ℕ) (limits : Limits) (fault other : Fault) (byte place : ℕ) →
+        HasFault bytes limits fault byte → HasFault bytes limits other place → (fault ≡ other) × (byte ≡ place) }
 {}

@@ -10,14 +10,16 @@ mod plain;
 
 pub use examples::{
     answer_examples, event_examples, journal_examples, order_examples, overflow_examples,
-    reduction_examples, table_examples, text_examples, vector_examples, walk_examples,
+    reduction_examples, table_examples, table_fault_examples, text_examples, vector_examples,
+    walk_examples,
 };
 pub use laws::{
     answer_has_the_essential_moves, answer_is_unique, answer_of_one_row, answer_without_rows,
-    confluence_from_pairs, conn_drop, conn_free, ended_is_joined, essential_is_markov,
-    essential_is_minimal, essential_moves_are_stars, events_keep_legal, join_chain, join_translate,
-    phase_is_legal, reached_is_legal, reduced_basis_divides, reduced_basis_has_the_essential_moves,
-    reduced_basis_is_markov, reduced_basis_is_unique, replay_goes_on,
+    confluence_from_pairs, conn_drop, conn_free, each_text_is_a_table_or_has_a_fault,
+    ended_is_joined, essential_is_markov, essential_is_minimal, essential_moves_are_stars,
+    events_keep_legal, join_chain, join_translate, phase_is_legal, reached_is_legal,
+    reduced_basis_divides, reduced_basis_has_the_essential_moves, reduced_basis_is_markov,
+    reduced_basis_is_unique, replay_goes_on,
 };
 pub use plain::{divides, is_below};
 use std::alloc::{AllocError, AllocFailed};

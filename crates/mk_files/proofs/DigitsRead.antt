@@ -5,8 +5,9 @@ use Rattle.std.specs.Str.Parse.{digits_value}
 use Rattle.std.proofs.lemmas.Bool.{eqb-true, ne_eqb, false≢true}
 use Rattle.std.proofs.lemmas.Bool.Decides.{nat_tests}
 use Rattle.std.proofs.lemmas.Int.Digits.{digits_value_more}
-use Rattle.std.proofs.lemmas.List.Elements.{All-head}
 use Rattle.mk_model.specs.Tables.{AreDigits, IsCount}
+use Rattle.mk_model.specs.TableFaults.{CountAbove}
+use Rattle.mk_model.proofs.TokenNumbers.{first_digit}
 use Rattle.mk_files.specs.Numbers.{without_plus}
 
 -- to hold a number at a limit and go on is to go on and hold it there
@@ -24,9 +25,6 @@ digits_value-held digits i limit old ten digit new more ascii is_old is_ten is_d
     cc
 
 -- digits have no sign in front
-first_digit : (b : ℕ) (digits : List ℕ) → AreDigits (b ∷ digits) → is_ascii_digit b ≡ true
-first_digit b digits are = All-head (λ c. is_ascii_digit c ≡ true) b digits are.each
-
 no_plus : (b : ℕ) → is_ascii_digit b ≡ true → (b == 43) ≡ false
 no_plus b h = ne_eqb b 43 (λ e. false≢true (ap is_ascii_digit (sym e) ∙ h))
 
@@ -54,10 +52,7 @@ IsCount-digits token n count = subst AreDigits (sym (digits_of_count token n cou
 pub IsCount-value : (token : List ℕ) (n : ℕ) → IsCount token n → n ≡ digits_value 10 (without_plus token)
 IsCount-value token n count = count.2 ∙ ap (digits_value 10) (sym (digits_of_count token n count))
 
--- a token writes one count at most
-pub IsCount-same : (token : List ℕ) (m n : ℕ) → IsCount token m → IsCount token n → m ≡ n
-IsCount-same token m n p q = IsCount-value token m p ∙ sym (IsCount-value token n q)
-
--- nothing with a minus in front is a count
-pub minus_no_count : (digits : List ℕ) (n : ℕ) → IsCount (45 ∷ digits) n → ⊥
-minus_no_count digits n count = false≢true (first_digit 45 digits (IsCount-digits (45 ∷ digits) n count))
+-- the number that is held at a limit is larger than a smaller one
+pub CountAbove-held : (token digits : List ℕ) (most count limit : ℕ) → digits ≡ without_plus token → AreDigits digits → count ≡ min (digits_value 10 digits) limit → most < count → CountAbove most token
+CountAbove-held token digits most count limit e are is above =
+    (digits_value 10 (without_plus token), IsCount-from token (subst AreDigits e are), omega (arith, ap (digits_value 10) e))

@@ -1,6 +1,6 @@
 pub mod RowsCut
+pub mod ErrorsPassed
 pub mod DigitsRead
 pub mod NumbersRead
 pub mod TokensBegin
-pub mod EntriesRead
-pub mod TablesRead
+pub mod FaultsFound

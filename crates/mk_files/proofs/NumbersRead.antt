@@ -1,9 +1,11 @@
 -- Tokens, and the one number that a token writes.
-use Rattle.std.proofs.Common.{◌≡◌, ℕ, List, ◌∷◌, get_or, ℤ, pos, neg_ℤ, inl, inr, refl, sym, ap, subst, ◌∙◌}
+use Rattle.std.proofs.Common.{◌≡◌, ℕ, ◌-◌, ◌^◌, ◌<◌, List, ◌∷◌, get_or, ℤ, pos, neg_ℤ, inl, inr, refl, sym, ap, subst, ◌∙◌, arith}
 use Rattle.std.specs.Str.Parse.{digits_value}
-use Rattle.mk_model.specs.Tables.{AreDigits, IsCount, IsNumber}
-use Rattle.mk_files.specs.Numbers.{without_plus}
-use Rattle.mk_files.proofs.DigitsRead.{IsCount-from, IsCount-digits, IsCount-value, IsCount-same, minus_no_count}
+use Rattle.std.proofs.lemmas.Int.{ints}
+use Rattle.mk_model.specs.Tables.{AreDigits, IsNumber}
+use Rattle.mk_model.proofs.TokenNumbers.{minus_no_count}
+use Rattle.mk_files.specs.Numbers.{without_plus, NumberBeyond}
+use Rattle.mk_files.proofs.DigitsRead.{IsCount-from, IsCount-digits, IsCount-value}
 
 -- behind a minus stand digits
 pub minus_digits : (digits : List ℕ) (z : ℤ) → IsNumber (45 ∷ digits) z → AreDigits digits × (z ≡ neg_ℤ (pos (digits_value 10 digits)))
@@ -24,16 +26,11 @@ other_digits token z other (inr (digits, are, is, same)) = absurd (other (ap (λ
 pub IsNumber-other : (token : List ℕ) → AreDigits (without_plus token) → IsNumber token (pos (digits_value 10 (without_plus token)))
 IsNumber-other token are = inl (digits_value 10 (without_plus token), refl, IsCount-from token are)
 
--- a token writes one number at most
-pub IsNumber-same : (token : List ℕ) (y z : ℤ) → IsNumber token y → IsNumber token z → y ≡ z
-IsNumber-same token y z (inl (m, y_is, y_count)) (inl (n, z_is, z_count)) =
-    y_is ∙ ap pos (IsCount-same token m n y_count z_count) ∙ sym z_is
-IsNumber-same token y z (inl (m, y_is, y_count)) (inr (digits, are, z_is, same)) =
-    let P : List ℕ → Type 0 = λ t. IsCount t m in
-    absurd (minus_no_count digits m (subst P same y_count))
-IsNumber-same token y z (inr (digits, are, y_is, same)) (inl (n, z_is, z_count)) =
-    let P : List ℕ → Type 0 = λ t. IsCount t n in
-    absurd (minus_no_count digits n (subst P same z_count))
-IsNumber-same token y z (inr (digits, are, y_is, same)) (inr (others, z_are, z_is, z_same)) =
-    let e : digits ≡ others = cc in
-    y_is ∙ ap (λ ds. neg_ℤ (pos (digits_value 10 ds))) e ∙ sym z_is
+-- the digits of a number too large for an entry
+pub minus_beyond : (digits : List ℕ) → AreDigits digits × (2 ^ 63 - 1 < digits_value 10 digits) → NumberBeyond (45 ∷ digits)
+minus_beyond digits (are, large) =
+    (neg_ℤ (pos (digits_value 10 digits)), IsNumber-minus digits are, inl (omega (arith, ints)))
+
+pub other_beyond : (token digits : List ℕ) → digits ≡ without_plus token → AreDigits digits × (2 ^ 63 - 1 < digits_value 10 digits) → NumberBeyond token
+other_beyond token digits e (are, large) =
+    (pos (digits_value 10 (without_plus token)), IsNumber-other token (subst AreDigits e are), inr (omega (arith, ints, ap (digits_value 10) e)))

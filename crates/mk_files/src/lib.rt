@@ -1,7 +1,8 @@
 //! The reader of tables: files of integers as the 4ti2 manual has them.
 //!
 //! A table is a text of numbers with white space between them: the number of rows, the number of columns, and the
-//! entries row by row. The grammar stands in `specs/Tables.antt` of `mk_model`.
+//! entries row by row. The grammar stands in `specs/Tables.antt` of `mk_model`, and what is wrong with any other text in
+//! `specs/TableFaults.antt` there.
 #![tactic(auto)]
 
 mod bounds;
@@ -14,6 +15,6 @@ mod tests;
 mod tokens;
 
 pub use bounds::{Bounds, MAX_COLUMNS, MAX_ROWS};
-pub use fault::TableFault;
+pub use fault::{Place, TableFault};
 pub use reading::read_table;
 pub use table::Table;

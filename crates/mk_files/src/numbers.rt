@@ -1,12 +1,21 @@
-ghost use Rattle.std.specs.Prelude.{◌≡◌, ℕ, ◌-◌, ◌^◌, ◌≤◌, min, ℤ, pos, neg_ℤ, ◌≤ℤ◌, IfSome, IfNone};
+ghost use Rattle.std.specs.Prelude.{◌≡◌, ◌-◌, ◌^◌, ◌≤◌, ◌<◌, min, pos, neg_ℤ, ◌≤ℤ◌, IfSome, IfNone, IfOk, IsErrOf};
 ghost use Rattle.std.specs.Str.Parse.{digits_value};
 ghost use Rattle.mk_model.specs.Tables.{AreDigits, IsCount, IsNumber};
-ghost use Rattle.mk_files.specs.Bounds.{IsWithin};
-ghost use Rattle.mk_files.specs.Numbers.{without_plus};
+ghost use Rattle.mk_model.specs.TableFaults.{CountAbove, NoCount, EntryBeyond, NoNumber};
+ghost use Rattle.mk_files.specs.Bounds.{IsWithin, limits_of};
+ghost use Rattle.mk_files.specs.Numbers.{without_plus, NumberBeyond};
 ghost use Rattle.mk_model.specs.Vectors.{IsEntry};
 
 use crate::bounds::Bounds;
 use mk_model::{ENTRY_MAX, Entry};
+
+/// Why a token's number is not taken.
+pub enum NumberFault {
+    /// It writes no number of the kind.
+    NoNumber,
+    /// The number is too small or too large.
+    OutOfRange,
+}
 
 /// The number that the digits write, or `u64::MAX` where it is larger.
 fn magnitude(digits: &[u8]) -> Option<u64>
@@ -40,55 +49,63 @@ fn without_plus_sign(token: &[u8]) -> &[u8]
 }
 
 /// The number of at most `most` that the token writes.
-pub fn count_of(token: &[u8], most: u32) -> Option<u32>
-    ensures found { IfSome result (λ n. (n ≤ most) × IsCount token.now n) }
-    ensures none { IfNone result ((n : ℕ) → n ≤ most → IsCount token.now n → ⊥) }
+pub fn count_of(token: &[u8], most: u32) -> Result<u32, NumberFault>
+    ensures ok { IfOk result (λ n. (n ≤ most) × IsCount token.now n) }
+    ensures no_number { IsErrOf result NumberFault.NoNumber → NoCount token.now }
+    ensures out_of_range { IsErrOf result NumberFault.OutOfRange → CountAbove most token.now }
 {
-    let count = magnitude(without_plus_sign(token))?;
+    let Some(count) = magnitude(without_plus_sign(token)) else {
+        return Err(NumberFault::NoNumber);
+    };
     if count <= u64::from(most) {
-        Some(count as u32)
+        Ok(count as u32)
     } else {
-        None
+        Err(NumberFault::OutOfRange)
     }
 }
 
 /// The number that the digits write, where it is no larger than the largest entry.
-fn entry_of_digits(digits: &[u8]) -> Option<Entry>
-    ensures found { IfSome result
+fn entry_of_digits(digits: &[u8]) -> Result<Entry, NumberFault>
+    ensures ok { IfOk result
         (λ z. AreDigits digits.now × (z ≡ pos (digits_value 10 digits.now)) × IsEntry z) }
-    ensures none { IfNone result
-        (AreDigits digits.now → IsEntry (pos (digits_value 10 digits.now)) → ⊥) }
+    ensures no_number { IsErrOf result NumberFault.NoNumber → AreDigits digits.now → ⊥ }
+    ensures out_of_range { IsErrOf result NumberFault.OutOfRange
+        → AreDigits digits.now × (2 ^ 63 - 1 < digits_value 10 digits.now) }
 {
-    let value = magnitude(digits)?;
+    let Some(value) = magnitude(digits) else {
+        return Err(NumberFault::NoNumber);
+    };
     if value <= ENTRY_MAX as u64 {
-        Some(value as Entry)
+        Ok(value as Entry)
     } else {
-        None
+        Err(NumberFault::OutOfRange)
     }
 }
 
 /// The number that the token writes, where it is from `-ENTRY_MAX` to `ENTRY_MAX`.
-fn number_of(token: &[u8]) -> Option<Entry>
-    ensures found { IfSome result (λ z. IsEntry z × IsNumber token.now z) }
-    ensures none { IfNone result ((z : ℤ) → IsEntry z → IsNumber token.now z → ⊥) }
+fn number_of(token: &[u8]) -> Result<Entry, NumberFault>
+    ensures ok { IfOk result (λ z. IsEntry z × IsNumber token.now z) }
+    ensures no_number { IsErrOf result NumberFault.NoNumber → NoNumber token.now }
+    ensures out_of_range { IsErrOf result NumberFault.OutOfRange → NumberBeyond token.now }
 {
     match token {
-        [b'-', digits @ ..] => Some(-entry_of_digits(digits)?),
+        [b'-', digits @ ..] => Ok(-entry_of_digits(digits)?),
         _ => entry_of_digits(without_plus_sign(token)),
     }
 }
 
 /// The number that the token writes, where it is within the bounds.
-pub fn entry_of(token: &[u8], bounds: &Bounds) -> Option<Entry>
+pub fn entry_of(token: &[u8], bounds: &Bounds) -> Result<Entry, NumberFault>
     requires least { neg_ℤ ENTRY_MAX ≤ℤ bounds.now.least }
     requires most { bounds.now.most ≤ℤ ENTRY_MAX }
-    ensures found { IfSome result (λ z. IsWithin bounds.now z × IsNumber token.now z) }
-    ensures none { IfNone result ((z : ℤ) → IsWithin bounds.now z → IsNumber token.now z → ⊥) }
+    ensures ok { IfOk result (λ z. IsWithin bounds.now z × IsNumber token.now z) }
+    ensures no_number { IsErrOf result NumberFault.NoNumber → NoNumber token.now }
+    ensures out_of_range { IsErrOf result NumberFault.OutOfRange → EntryBeyond (limits_of bounds.now) token.now }
 {
     let entry = number_of(token)?;
     if bounds.least <= entry && entry <= bounds.most {
-        Some(entry)
+        Ok(entry)
     } else {
-        None
+        Err(NumberFault::OutOfRange)
     }
 }

@@ -1,14 +1,15 @@
-ghost use Rattle.std.specs.Prelude.{◌≡◌, ℕ, ◌≤◌, List, length, ℤ, neg_ℤ, ◌≤ℤ◌, IfOk, IfSome, IfNone, IsErrOf};
-ghost use Rattle.mk_model.specs.Tables.{Grid, IsCount, IsNumber, ReadsTable, tokens};
+ghost use Rattle.std.specs.Prelude.{◌≡◌, ◌⊎◌, ℕ, ◌*◌, ◌≤◌, [], length, neg_ℤ, ◌≤ℤ◌, IfOk, IfErr, IsErrOf};
+ghost use Rattle.mk_model.specs.Tables.{Grid, IsNumber, ReadsTable};
 ghost use Rattle.mk_files.specs.Bounds.{IsWithin, limits_of};
-ghost use Rattle.mk_files.specs.Reading.{BeginsWith, ReadsEntries, GivesGrid};
+ghost use Rattle.mk_files.specs.Reading.{GivesGrid, IsFaultOf, IsEntryFault, RowsRead, EntriesRead};
 ghost use Rattle.mk_files.specs.Table.{IsTable};
+ghost use Rattle.mk_files.specs.Tokens.{token_bytes};
 
 use crate::bounds::{Bounds, MAX_COLUMNS, MAX_ROWS};
-use crate::fault::TableFault;
-use crate::numbers::{count_of, entry_of};
+use crate::fault::{TableFault, place_at};
+use crate::numbers::{NumberFault, count_of, entry_of};
 use crate::table::Table;
-use crate::tokens::next_token;
+use crate::tokens::{Token, next_token};
 use mk_model::{ENTRY_MAX, Entry};
 use std::alloc::Global;
 
@@ -20,8 +21,8 @@ use std::alloc::Global;
 /// plus; an entry is the same, or digits after a minus. Zeros in front are read over. The bounds allow at most 4096
 /// rows and 512 columns, and entries from `-ENTRY_MAX` to `ENTRY_MAX`.
 ///
-/// `Malformed` is any text that is not such a table, and one with a number beyond the bounds. `Memory` may come in its
-/// place, where there is no room for the entries in front of the fault.
+/// The tokens are read from the left, and the first fault is answered, with its place. `Memory` may come in place of a
+/// table or of a fault, where there is no room for the entries in front.
 pub fn read_table(alloc: Global, bytes: &[u8], bounds: &Bounds) -> Result<Table, TableFault>
     requires rows { bounds.now.rows ≤ MAX_ROWS }
     requires columns { bounds.now.columns ≤ MAX_COLUMNS }
@@ -30,73 +31,117 @@ pub fn read_table(alloc: Global, bytes: &[u8], bounds: &Bounds) -> Result<Table,
 
     ensures ok { IfOk result (ReadsTable bytes.now (limits_of bounds.now)) }
     ensures kept { IfOk result IsTable }
-
     // A text that is a table is read as that table.
     ensures only { (grid : Grid)
         → ReadsTable bytes.now (limits_of bounds.now) grid → GivesGrid grid result }
-    ensures malformed { IsErrOf result TableFault.Malformed
-        → (grid : Grid) → ReadsTable bytes.now (limits_of bounds.now) grid → ⊥ }
+
+    ensures fault { IfErr result
+        (λ fault. (fault ≡ TableFault.Memory) ⊎ IsFaultOf bytes.now (limits_of bounds.now) fault) }
+    // A text that has a fault is answered with that fault.
+    ensures faulty { (fault : TableFault) → IsFaultOf bytes.now (limits_of bounds.now) fault
+        → IsErrOf result fault ⊎ IsErrOf result TableFault.Memory }
 {
-    let Some((rows, rest)) = next_count(bytes, bounds.rows) else {
-        return Err(TableFault::Malformed);
-    };
-    let Some((columns, rest)) = next_count(rest, bounds.columns) else {
-        return Err(TableFault::Malformed);
-    };
-    let entries = all_entries(alloc, rest, rows as usize * columns as usize, bounds)?;
+    let (rows, end) = read_rows(bytes, bounds)?;
+    let (columns, end) = read_columns(bytes, rows, end, bounds)?;
+    let entries = read_entries(alloc, bytes, rows, columns, end, bounds)?;
     Ok(Table::from_entries(rows, columns, entries))
 }
 
-/// The count of at most `most` at the front, and the bytes behind it.
-fn next_count(bytes: &[u8], most: u32) -> Option<(u32, &[u8])>
-    ensures found { IfSome result (λ found. (found.0 ≤ most)
-        × BeginsWith bytes.now (λ token. IsCount token found.0) (tokens found.1.now)) }
-    ensures none { IfNone result ((n : ℕ) (rest : List (List ℕ))
-        → n ≤ most → BeginsWith bytes.now (λ token. IsCount token n) rest → ⊥) }
+/// The number of rows, and the byte behind it.
+fn read_rows(bytes: &[u8], bounds: &Bounds) -> Result<(u32, usize), TableFault>
+    ensures ok { IfOk result (λ read. RowsRead bytes.now bounds.now read.0 read.1) }
+    ensures fault { IfErr result (IsFaultOf bytes.now (limits_of bounds.now)) }
 {
-    let (token, rest) = next_token(bytes)?;
-    Some((count_of(token, most)?, rest))
+    let Some(first) = next_token(bytes, 0) else {
+        return Err(TableFault::NoHeader {
+            place: place_at(bytes, bytes.len()),
+            found: 0,
+        });
+    };
+    match count_of(&bytes[first.start..first.end], bounds.rows) {
+        Ok(rows) => Ok((rows, first.end)),
+        Err(NumberFault::NoNumber) => Err(TableFault::BadNumber(place_at(bytes, first.start))),
+        Err(NumberFault::OutOfRange) => Err(TableFault::Rows(place_at(bytes, first.start))),
+    }
 }
 
-/// The entry within the bounds at the front, and the bytes behind it.
-fn next_entry<'a>(bytes: &'a [u8], bounds: &Bounds) -> Option<(Entry, &'a [u8])>
-    requires least { neg_ℤ ENTRY_MAX ≤ℤ bounds.now.least }
-    requires most { bounds.now.most ≤ℤ ENTRY_MAX }
-    ensures found { IfSome result (λ found. IsWithin bounds.now found.0
-        × BeginsWith bytes.now (λ token. IsNumber token found.0) (tokens found.1.now)) }
-    ensures none { IfNone result ((z : ℤ) (rest : List (List ℕ))
-        → IsWithin bounds.now z → BeginsWith bytes.now (λ token. IsNumber token z) rest → ⊥) }
+/// The number of columns, and the byte behind it.
+fn read_columns(
+    bytes: &[u8],
+    rows: u32,
+    end: usize,
+    bounds: &Bounds,
+) -> Result<(u32, usize), TableFault>
+    requires { RowsRead bytes.now bounds.now rows end }
+    ensures ok { IfOk result (λ read. EntriesRead bytes.now bounds.now
+        (record { rows = rows; columns = read.0; entries = [] }) read.1) }
+    ensures fault { IfErr result (IsFaultOf bytes.now (limits_of bounds.now)) }
 {
-    let (token, rest) = next_token(bytes)?;
-    Some((entry_of(token, bounds)?, rest))
+    let Some(second) = next_token(bytes, end) else {
+        return Err(TableFault::NoHeader {
+            place: place_at(bytes, bytes.len()),
+            found: 1,
+        });
+    };
+    match count_of(&bytes[second.start..second.end], bounds.columns) {
+        Ok(columns) => Ok((columns, second.end)),
+        Err(NumberFault::NoNumber) => Err(TableFault::BadNumber(place_at(bytes, second.start))),
+        Err(NumberFault::OutOfRange) => Err(TableFault::Columns(place_at(bytes, second.start))),
+    }
 }
 
-/// The entries that the bytes write, where they are `count` entries within the bounds and nothing else.
-fn all_entries(
+/// The entries, with nothing behind them.
+fn read_entries(
     alloc: Global,
     bytes: &[u8],
-    count: usize,
+    rows: u32,
+    columns: u32,
+    end: usize,
     bounds: &Bounds,
 ) -> Result<Vec<Entry>, TableFault>
+    requires header { EntriesRead bytes.now bounds.now
+        (record { rows = rows; columns = columns; entries = [] }) end }
     requires least { neg_ℤ ENTRY_MAX ≤ℤ bounds.now.least }
     requires most { bounds.now.most ≤ℤ ENTRY_MAX }
-    ensures count { IfOk result (λ entries. length entries.items ≡ count) }
-    ensures ok { IfOk result (λ entries. ReadsEntries (tokens bytes.now) bounds.now entries.items) }
-    ensures malformed { IsErrOf result TableFault.Malformed
-        → (entries : List ℤ)
-        → length entries ≡ count → ReadsEntries (tokens bytes.now) bounds.now entries → ⊥ }
+    ensures count { IfOk result (λ entries. length entries.items ≡ rows * columns) }
+    ensures ok { IfOk result (λ entries. ReadsTable bytes.now (limits_of bounds.now)
+        (record { rows = rows; columns = columns; entries = entries.items })) }
+    ensures fault { IfErr result
+        (λ fault. (fault ≡ TableFault.Memory) ⊎ IsFaultOf bytes.now (limits_of bounds.now) fault) }
 {
+    let wanted = u64::from(rows) * u64::from(columns);
     let mut entries = Vec::new(alloc);
-    let mut rest = bytes;
-    for _ in 0..count {
-        let Some((entry, after)) = next_entry(rest, bounds) else {
-            return Err(TableFault::Malformed);
+    let mut end = end;
+    for found in 0..wanted {
+        let Some(token) = next_token(bytes, end) else {
+            let place = place_at(bytes, bytes.len());
+            return Err(TableFault::Missing {
+                place,
+                found,
+                wanted,
+            });
         };
-        entries.push(entry)?;
-        rest = after;
+        entries.push(read_entry(bytes, token, bounds)?)?;
+        end = token.end;
     }
-    match next_token(rest) {
+    match next_token(bytes, end) {
         None => Ok(entries),
-        Some(_) => Err(TableFault::Malformed),
+        Some(token) => Err(TableFault::Trailing(place_at(bytes, token.start))),
+    }
+}
+
+/// The entry that the token writes.
+fn read_entry(bytes: &[u8], token: Token, bounds: &Bounds) -> Result<Entry, TableFault>
+    requires ordered { token.start ≤ token.end }
+    requires inside { token.end ≤ length bytes.now }
+    requires least { neg_ℤ ENTRY_MAX ≤ℤ bounds.now.least }
+    requires most { bounds.now.most ≤ℤ ENTRY_MAX }
+    ensures ok { IfOk result (λ z. IsWithin bounds.now z × IsNumber (token_bytes bytes.now token) z) }
+    ensures fault { IfErr result (IsEntryFault bytes.now bounds.now token) }
+{
+    match entry_of(&bytes[token.start..token.end], bounds) {
+        Ok(entry) => Ok(entry),
+        Err(NumberFault::NoNumber) => Err(TableFault::BadNumber(place_at(bytes, token.start))),
+        Err(NumberFault::OutOfRange) => Err(TableFault::EntryRange(place_at(bytes, token.start))),
     }
 }

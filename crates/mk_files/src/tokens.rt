@@ -1,6 +1,13 @@
-ghost use Rattle.std.specs.Prelude.{◌≡◌, [], ◌∷◌, MatchOption};
+ghost use Rattle.std.specs.Prelude.{◌≡◌, take, MatchOption};
 ghost use Rattle.mk_model.specs.Tables.{is_space, tokens};
-ghost use Rattle.mk_files.specs.Tokens.{IsRun};
+ghost use Rattle.mk_files.specs.Tokens.{IsRun, IsCut, IsNextToken};
+
+/// A token of a text: its first byte, and the byte behind its last.
+#[derive(Clone, Copy)]
+pub struct Token {
+    pub start: usize,
+    pub end: usize,
+}
 
 /// White space: the bytes 9 to 13, and 32.
 fn is_white(byte: u8) -> bool
@@ -21,15 +28,17 @@ fn run_len(bytes: &[u8], white: bool) -> usize
     bytes.len()
 }
 
-/// The first token, and the bytes behind it.
-pub fn next_token(bytes: &[u8]) -> Option<(&[u8], &[u8])>
+/// The first token behind a byte.
+pub fn next_token(bytes: &[u8], from: usize) -> Option<Token>
+    requires { IsCut bytes.now from }
     ensures { MatchOption result
-        (tokens bytes.now ≡ [])
-        (λ found. tokens bytes.now ≡ found.0.now ∷ tokens found.1.now) }
+        (tokens bytes.now ≡ tokens (take from bytes.now))
+        (IsNextToken bytes.now from) }
 {
-    let text = &bytes[run_len(bytes, true)..];
-    if text.is_empty() {
+    let start = from + run_len(&bytes[from..], true);
+    if start == bytes.len() {
         return None;
     }
-    Some(text.split_at(run_len(text, false)))
+    let end = start + run_len(&bytes[start..], false);
+    Some(Token { start, end })
 }

@@ -1,14 +1,13 @@
-//! Whole runs over a folder in memory, and the calls below them on small lattices, each with what it must give. The tests
-//! are all there is.
+//! Whole runs over a folder in memory, each with what it must give. The tests are all there is.
 #![tactic(auto)]
 
 #[cfg(test)]
-mod bases;
+mod answers;
 #[cfg(test)]
-mod completions;
+mod folders;
 #[cfg(test)]
-mod lower;
+mod refusals;
 #[cfg(test)]
-mod saturations;
+mod runs;
 #[cfg(test)]
-mod tests;
+mod words;

@@ -1,11 +1,5 @@
 pub mod Endings
-pub mod FilesInMemory
-pub mod Gradings
-pub mod LineParts
-pub mod Loading
-pub mod MoveLines
-pub mod Rows
 pub mod Solved
 pub mod Stops
-pub mod Telling
+pub mod Shown
 pub mod WordsNamed

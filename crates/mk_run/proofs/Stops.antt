@@ -1,15 +1,16 @@
 -- How a run ends, by what was read, solved and written and by the line that was said.
 use Rattle.std.proofs.Common.{◌≡◌, ◌⊎◌, ℕ, ◌≤◌, List, ◌++◌, take, Some, None, IfSome, refl, ap, sym, subst, ◌∙◌, inl, inr, arith}
-use Rattle.std.specs.FinMap.{get}
 use Rattle.mk_solve.specs.Books.{Book, empty_book, settled_of}
 use Rattle.mk_solve.specs.declared.book.BookStop.{BookStop}
 use Rattle.mk_solve.specs.declared.book.BookStop.TheVariants as why
 use Rattle.mk_solve.specs.declared.fault.InputFault.{InputFault}
-use Rattle.mk_run.specs.Folders.{Desk}
-use Rattle.mk_run.specs.Inputs.{lat_name, IsFaulty}
-use Rattle.mk_run.specs.Lines.{usage_line, folder_line, memory_line, input_line, stop_line, IsLine}
+use Rattle.mk_desk.specs.Folders.{Desk}
+use Rattle.mk_lines.specs.Lines.{usage_line, folder_line, memory_line, input_line, stop_line}
+use Rattle.mk_input.specs.Projects.{project_files, IsFaulty}
+use Rattle.mk_input.specs.Readings.{OnlyRead}
+use Rattle.mk_run.specs.Lines.{IsLine}
 use Rattle.mk_run.specs.Runs.{default_budget, SaysLine, Leaves, RunsOut, Ends, EndsUnnamed, IsStopped, HasStop, status_of}
-use Rattle.mk_run.specs.Stages.{LeavesBegun, OnlyRead}
+use Rattle.mk_run.specs.Stages.{LeavesBegun}
 use Rattle.mk_run.specs.declared.status.Status.{Status}
 use Rattle.mk_run.specs.declared.status.Status.TheVariants.{Usage, Input, Folder, Memory}
 
@@ -24,7 +25,7 @@ said_after line reason rose why x y z read said = record {
 }
 
 -- only a file was read, so no file was begun
-read_alone : (project : List ℕ) (book : Book) (x y : Desk) → OnlyRead x y → LeavesBegun project book x y
+pub read_alone : (project : List ℕ) (book : Book) (x y : Desk) → OnlyRead x y → LeavesBegun project book x y
 read_alone project book x y read = record {
   files = ap (λ (d : Desk). d.files) read;
   out = ap (λ (d : Desk). d.out) read;
@@ -68,15 +69,15 @@ module _ (project : List ℕ) (book : Book) where
         errors = ap (λ (d : Desk). d.errors) said.change ∙ ap (λ e. e ++ take said.count line) left.errors;
         made = elim left.made [
           | inl same ↦ inl (name ∙ same.0, made ∙ same.1)
-          | inr begun ↦ inr (record { grid = begun.grid; moves = begun.moves; answer = begun.answer; name = name ∙ begun.name; count = begun.count; made = made ∙ begun.made })
+          | inr begun ↦ inr (record { lat = begun.lat; moves = begun.moves; answer = begun.answer; name = name ∙ begun.name; count = begun.count; made = made ∙ begun.made })
         ];
       }
 
   -- memory ran out, and a line was said or not, where the book has neither a fault nor a stop
   memory_left : (line : List ℕ) (reason : Type 0) → IsLine project book line → book.input ≡ None → book.stop ≡ None → (x y z : Desk) → LeavesBegun project book x y → SaysLine line reason y z → RunsOut project book x z
   memory_left line reason one no_fault no_stop x y z left said = record {
-    faulty = subst (λ input. IfSome input (IsFaulty (get x.files (lat_name project)))) (sym no_fault) tt;
-    stopped = subst (λ stop. IfSome stop (HasStop (get x.files (lat_name project)) book)) (sym no_stop) tt;
+    faulty = subst (λ input. IfSome input (IsFaulty (project_files x.files project))) (sym no_fault) tt;
+    stopped = subst (λ stop. IfSome stop (HasStop (project_files x.files project) book)) (sym no_stop) tt;
     left = left_and_said line (IsLine project book) reason one x y z left said;
   }
 
@@ -94,7 +95,7 @@ module _ (project : List ℕ) (book : Book) where
       ]
 
   -- a fault of the input, and the line said about it
-  pub refused_ends : (fault : InputFault) (rose risen : Type 0) (status : Status) → (status ≡ Input) ⊎ (status ≡ Memory) → book.input ≡ Some fault → book.stop ≡ None → (risen → rose) → (x y z : Desk) → IsFaulty (get x.files (lat_name project)) fault × OnlyRead x y → SaysLine (input_line project fault) (risen ⊎ (status ≡ Memory)) y z → Ends project book rose status x z
+  pub refused_ends : (fault : InputFault) (rose risen : Type 0) (status : Status) → (status ≡ Input) ⊎ (status ≡ Memory) → book.input ≡ Some fault → book.stop ≡ None → (risen → rose) → (x y z : Desk) → IsFaulty (project_files x.files project) fault × OnlyRead x y → SaysLine (input_line project fault) (risen ⊎ (status ≡ Memory)) y z → Ends project book rose status x z
   refused_ends fault rose risen status which kept no_stop up x y z read said =
       elim which [
         | inl e ↦ subst (λ (s : Status). Ends project book rose s x z) (sym e) (record {
@@ -104,8 +105,8 @@ module _ (project : List ℕ) (book : Book) where
           line = said_after (input_line project fault) (risen ⊎ (status ≡ Memory)) rose (λ r. elim r [ inl u ↦ up u | inr m ↦ absurd (let both = sym e ∙ m in cc) ]) x y z read.1 said;
         })
         | inr e ↦ subst (λ (s : Status). Ends project book rose s x z) (sym e) (record {
-          faulty = subst (λ input. IfSome input (IsFaulty (get x.files (lat_name project)))) (sym kept) read.0;
-          stopped = subst (λ stop. IfSome stop (HasStop (get x.files (lat_name project)) book)) (sym no_stop) tt;
+          faulty = subst (λ input. IfSome input (IsFaulty (project_files x.files project))) (sym kept) read.0;
+          stopped = subst (λ stop. IfSome stop (HasStop (project_files x.files project) book)) (sym no_stop) tt;
           left = left_and_said (input_line project fault) (IsLine project book) _ (inr (inr (inl (fault, kept, refl)))) x y z (read_alone project book x y read.1) said;
         })
       ]
@@ -122,12 +123,12 @@ module _ (project : List ℕ) (book : Book) where
   stop_ends (why.BasisFull phase i j) rose x z h = h
 
   abbrev HasSomeStop : Desk → Type 0
-  HasSomeStop x = (kept : BookStop) × (book.stop ≡ Some kept) × HasStop (get x.files (lat_name project)) book kept
+  HasSomeStop x = (kept : BookStop) × (book.stop ≡ Some kept) × HasStop (project_files x.files project) book kept
 
-  same_stop : (stop : BookStop) (x : Desk) → book.stop ≡ Some stop → HasSomeStop x → HasStop (get x.files (lat_name project)) book stop
+  same_stop : (stop : BookStop) (x : Desk) → book.stop ≡ Some stop → HasSomeStop x → HasStop (project_files x.files project) book stop
   same_stop stop x kept h =
       let same : h.0 ≡ stop = (let e = sym h.1 ∙ kept in cc) in
-      subst (HasStop (get x.files (lat_name project)) book) same h.2
+      subst (HasStop (project_files x.files project) book) same h.2
 
   -- a stop, and the line said about it
   pub stopped_ends : (stop : BookStop) (rose risen : Type 0) (status : Status) → (status ≡ status_of stop) ⊎ (status ≡ Memory) → book.input ≡ None → book.stop ≡ Some stop → (risen → rose) → (x y z : Desk) → HasSomeStop x × OnlyRead x y → SaysLine (stop_line stop) (risen ⊎ (status ≡ Memory)) y z → Ends project book rose status x z
@@ -142,8 +143,8 @@ module _ (project : List ℕ) (book : Book) where
           line = said_after (stop_line stop) (risen ⊎ (status ≡ Memory)) rose (λ r. elim r [ inl u ↦ up u | inr m ↦ absurd (no_want_of_memory stop (sym e ∙ m)) ]) x y z read.1 said;
         }))
         | inr e ↦ subst (λ (s : Status). Ends project book rose s x z) (sym e) (record {
-          faulty = subst (λ input. IfSome input (IsFaulty (get x.files (lat_name project)))) (sym no_fault) tt;
-          stopped = subst (λ s. IfSome s (HasStop (get x.files (lat_name project)) book)) (sym kept) cause;
+          faulty = subst (λ input. IfSome input (IsFaulty (project_files x.files project))) (sym no_fault) tt;
+          stopped = subst (λ s. IfSome s (HasStop (project_files x.files project) book)) (sym kept) cause;
           left = left_and_said (stop_line stop) (IsLine project book) _ (inr (inr (inr (stop, kept, refl)))) x y z (read_alone project book x y read.1) said;
         })
       ]

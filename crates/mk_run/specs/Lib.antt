@@ -1,9 +1,4 @@
-pub mod Folders
-pub mod Inputs
+pub mod Words
 pub mod Lines
-pub mod MemoryFolders
 pub mod Runs
 pub mod Stages
-pub mod Texts
-pub mod Transfers
-pub mod Words

@@ -1,10 +1,6 @@
-ghost use Rattle.std.specs.Prelude.{◌≡◌};
-ghost use Rattle.mk_run.specs.Stages.{load_refused};
-
-use crate::folder::DeskFault;
-use crate::transfer::LoadFault;
-use mk_solve::{InputFault, InputFile, RunStop};
-use std::alloc::{AllocError, AllocFailed};
+use mk_input::ReadFault;
+use mk_solve::{InputFault, RunStop};
+use mk_writer::WriteFault;
 
 /// Why a run has no answer: `Stopped` where the book has a stop.
 #[derive(Clone, Copy, Debug, PartialEq, Eq)]
@@ -15,38 +11,17 @@ pub(crate) enum RunFault {
     Stopped,
 }
 
-impl From<AllocError> for RunFault {
+impl From<ReadFault> for RunFault {
     ghost use Rattle.std.specs.Prelude.{◌≡◌};
-    ghost use Rattle.mk_run.specs.declared.fault.RunFault.TheVariants.{Memory};
+    ghost use Rattle.mk_run.specs.Stages.{read_refused};
 
-    ghost from_gives = { λ _ e. e ≡ Memory };
+    ghost from_gives = { λ fault e. e ≡ read_refused fault };
 
-    fn from(_e: AllocError) -> RunFault {
-        RunFault::Memory
-    }
-}
-
-impl<T: Drop> From<AllocFailed<T>> for RunFault {
-    ghost use Rattle.std.specs.Prelude.{◌≡◌};
-    ghost use Rattle.mk_run.specs.declared.fault.RunFault.TheVariants.{Memory};
-
-    ghost from_gives = { λ _ e. e ≡ Memory };
-
-    fn from(_e: AllocFailed<T>) -> RunFault {
-        RunFault::Memory
-    }
-}
-
-impl From<DeskFault> for RunFault {
-    ghost use Rattle.std.specs.Prelude.{◌≡◌};
-    ghost use Rattle.mk_run.specs.Stages.{desk_refused};
-
-    ghost from_gives = { λ fault e. e ≡ desk_refused fault };
-
-    fn from(fault: DeskFault) -> RunFault {
+    fn from(fault: ReadFault) -> RunFault {
         match fault {
-            DeskFault::Memory => RunFault::Memory,
-            DeskFault::Failed => RunFault::Failed,
+            ReadFault::Memory => RunFault::Memory,
+            ReadFault::Failed => RunFault::Failed,
+            ReadFault::Input(fault) => RunFault::Input(fault),
         }
     }
 }
@@ -65,15 +40,16 @@ impl From<RunStop> for RunFault {
     }
 }
 
-impl RunFault {
-    /// Why a file that is to be loaded gives no answer.
-    pub(crate) fn of_load(file: InputFile, fault: LoadFault) -> RunFault
-        ensures { result ≡ load_refused file fault }
-    {
+impl From<WriteFault> for RunFault {
+    ghost use Rattle.std.specs.Prelude.{◌≡◌};
+    ghost use Rattle.mk_run.specs.Stages.{write_refused};
+
+    ghost from_gives = { λ fault e. e ≡ write_refused fault };
+
+    fn from(fault: WriteFault) -> RunFault {
         match fault {
-            LoadFault::Memory => RunFault::Memory,
-            LoadFault::Failed => RunFault::Failed,
-            LoadFault::FileSize { read } => RunFault::Input(InputFault::FileSize { file, read }),
+            WriteFault::Memory => RunFault::Memory,
+            WriteFault::Failed => RunFault::Failed,
         }
     }
 }

@@ -1,43 +1,34 @@
 //! A run for a project, from the words to the exit status.
 
 ghost use Rattle.std.specs.Prelude.{◌≡◌, ◌⊎◌, ◌≤◌, ℕ, List, map, false, OnOk, string_bytes};
+ghost use Rattle.mk_desk.specs.Folders.{Rose, WhereTold};
+ghost use Rattle.mk_lines.specs.Lines.{input_line, stop_line};
 ghost use Rattle.mk_solve.specs.Books.{empty_book, settled_of};
-ghost use Rattle.mk_run.specs.Folders.{HasCause, Rose, WhereTold};
-ghost use Rattle.mk_run.specs.Lines.{input_line, stop_line};
+ghost use Rattle.mk_writer.specs.Writing.{WriteHasCause};
 ghost use Rattle.mk_run.specs.Runs.{default_budget, status_of, Ends, EndsUnnamed, HasCauseOf, InputIsShown, SaysLine};
-ghost use Rattle.mk_run.specs.Stages.{ReadsLattice, IsTableOf, Answers, WritesAnswer, RunHasCause, IsShown, IsBookOf, IsNotMaking};
+ghost use Rattle.mk_run.specs.Stages.{Answers, WritesAnswer, RunHasCause, IsRunShown, IsBookOf, IsNotMaking};
 ghost use Rattle.mk_run.specs.Words.{NamesProject};
 
-use crate::answer::answer_text;
 use crate::fault::RunFault;
-use crate::folder::{Channel, DeskFault, Folder};
-use crate::lines::{self, input_line, stop_line};
-use crate::names::file_name;
 use crate::status::Status;
-use crate::transfer::{load, put_all, say_all};
 use crate::words::project_of;
-use mk_files::{Bounds, Table, TableFault, read_table};
-use mk_model::ENTRY_MAX;
-use mk_solve::{BookStop, InputFault, InputFile, RunBook};
+use mk_desk::{Channel, DeskFault, Folder, say_all};
+use mk_input::{file_name, read_project};
+use mk_lines::{FOLDER, MEMORY, USAGE, input_line, stop_line};
+use mk_minimise::MinimalList;
+use mk_solve::{BookStop, InputFault, RunBook, solve_alone};
+use mk_writer::{WriteFault, write_moves};
 use std::alloc::Global;
 
-/// The most bytes of a file.
-const FILE_LIMIT: u64 = 67108864;
-
-/// The bounds of a lattice's table.
-const LATTICE_BOUNDS: Bounds = Bounds {
-    rows: 4096,
-    columns: 512,
-    least: -ENTRY_MAX,
-    most: ENTRY_MAX,
-};
+/// How many pairs a run may settle.
+const DEFAULT_BUDGET: u64 = 20_000_000;
 
 /// Reads the lattice of a project and writes its essential moves, which are a minimal Markov basis of it.
 ///
-/// The words are those behind the program's name. `PROJECT.lat` is read, and `PROJECT.mar` made. The moves are the essential
-/// ones with all ones as grading, ascending by move order (Sturmfels, chapters 5 and 12), the book keeps how they were found,
-/// and the status says how the run ended. A run that is refused says one line on the error channel and leaves the files as
-/// they were.
+/// The words are those behind the program's name. `PROJECT.lat` is read, and `PROJECT.mat` and `PROJECT.grade` where they are
+/// there, and `PROJECT.mar` is made. The moves are the essential ones for the grading that is chosen, ascending by move order
+/// (Sturmfels, chapters 5 and 12), the book keeps how they were found, and the status says how the run ended. A run that is
+/// refused says one line on the error channel and leaves the files as they were.
 pub fn run_alone<F: Folder>(
     alloc: Global,
     words: &[String],
@@ -55,7 +46,7 @@ pub fn run_alone<F: Folder>(
 
     // Each status has its cause. The book has a fault exactly where the input was refused, and a stop exactly where the
     // run stopped, unless memory ran out. It has no more pairs than a run may settle.
-    ensures cause { HasCauseOf book.new.input book.new.stop (F.state folder.old) (F.state folder.new) result }
+    ensures cause { HasCauseOf book.new (F.state folder.old) (F.state folder.new) result }
     ensures settled { settled_of book.new.phases ≤ default_budget }
     ensures shown { (project : List ℕ) → NamesProject (map string_bytes words.now) project →
         InputIsShown book.new.input (F.state folder.new) result }
@@ -69,7 +60,7 @@ pub fn run_alone<F: Folder>(
         (EndsUnnamed (Rose (F.state folder.old).faults (F.state folder.new).faults) result) }
 {
     let Some(project) = project_of(words) else {
-        return refuse(folder, Status::Usage, lines::USAGE);
+        return refuse(folder, Status::Usage, USAGE);
     };
     match answer(alloc, folder, project, book) {
         Ok(()) => Status::Done,
@@ -81,8 +72,8 @@ pub fn run_alone<F: Folder>(
             Some(stop) => refuse_stop(alloc, folder, stop),
             None => unreachable!(),
         },
-        Err(RunFault::Failed) => refuse(folder, Status::Folder, lines::FOLDER),
-        Err(RunFault::Memory) => refuse(folder, Status::Memory, lines::MEMORY),
+        Err(RunFault::Failed) => refuse(folder, Status::Folder, FOLDER),
+        Err(RunFault::Memory) => refuse(folder, Status::Memory, MEMORY),
     }
 }
 
@@ -98,63 +89,32 @@ fn answer<F: Folder>(
     ensures book { IsBookOf book.new result }
     ensures making { IsNotMaking (F.state folder.new) result }
     ensures cause { RunHasCause (F.state folder.old) (F.state folder.new) result }
-    ensures shown { IsShown (F.state folder.new) result }
+    ensures shown { IsRunShown (F.state folder.new) result }
     ensures told { WhereTold (F.told folder.old) (F.told folder.new) (Answers project.now book.new result) }
 {
-    let table = read_lattice(alloc, folder, project)?;
-    let text = answer_text(alloc, &table, book)?;
-    Ok(write_answer(alloc, folder, project, &text)?)
+    let problem = read_project(alloc, folder, project)?;
+    let list = solve_alone(alloc, &problem.lat, &problem.grading, DEFAULT_BUDGET, book)?;
+    Ok(write_answer(alloc, folder, project, &list)?)
 }
 
-/// Reads `PROJECT.lat` as a table.
-fn read_lattice<F: Folder>(alloc: Global, folder: &mut F, project: &str) -> Result<Table, RunFault>
-    ensures making { (F.state folder.new).making ≡ (F.state folder.old).making }
-    ensures going { ¬ (result ≡ Err RunFault.Stopped) }
-    ensures cause { RunHasCause (F.state folder.old) (F.state folder.new) result }
-    ensures shown { IsShown (F.state folder.new) result }
-    ensures told { WhereTold (F.told folder.old) (F.told folder.new) (ReadsLattice project.now result) }
-{
-    let name = file_name(alloc, project, ".lat")?;
-    let file = load(alloc, folder, name.as_str(), FILE_LIMIT);
-    match file {
-        Err(fault) => Err(RunFault::of_load(InputFile::Lat, fault)),
-        Ok(None) => Err(RunFault::Input(InputFault::NoLattice)),
-        Ok(Some(bytes)) => lattice_table(alloc, &bytes),
-    }
-}
-
-/// The table that the bytes of a lattice file write.
-fn lattice_table(alloc: Global, bytes: &[u8]) -> Result<Table, RunFault>
-    ensures { IsTableOf bytes.now result }
-{
-    match read_table(alloc, bytes, &LATTICE_BOUNDS) {
-        Ok(table) => Ok(table),
-        Err(TableFault::Memory) => Err(RunFault::Memory),
-        Err(TableFault::Malformed) => Err(RunFault::Input(InputFault::Table {
-            file: InputFile::Lat,
-            fault: TableFault::Malformed,
-        })),
-    }
-}
-
-/// Makes `PROJECT.mar` with this text.
+/// Makes `PROJECT.mar` with the text of the list.
 fn write_answer<F: Folder>(
     alloc: Global,
     folder: &mut F,
     project: &str,
-    text: &[u8],
-) -> Result<(), DeskFault>
+    list: &MinimalList,
+) -> Result<(), WriteFault>
     requires { (F.state folder.old).making ≡ false }
     ensures found { (F.state folder.new).found ≡ (F.state folder.old).found }
     ensures given { (F.state folder.new).given ≡ (F.state folder.old).given }
     ensures making { OnOk result ((F.state folder.new).making ≡ false) }
-    ensures cause { HasCause (F.state folder.old) (F.state folder.new) result }
-    ensures told { WhereTold (F.told folder.old) (F.told folder.new) (WritesAnswer project.now text.now result) }
+    ensures cause { WriteHasCause (F.state folder.old) (F.state folder.new) result }
+    ensures told { WhereTold (F.told folder.old) (F.told folder.new) (WritesAnswer project.now list.now result) }
 {
     let name = file_name(alloc, project, ".mar")?;
     folder.start_write(name.as_str())?;
-    put_all(folder, text)?;
-    folder.end_write()
+    write_moves(alloc, folder, list)?;
+    Ok(folder.end_write()?)
 }
 
 /// Says a line on the error channel. The status stays, unless no memory was found to say it.

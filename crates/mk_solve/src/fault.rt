@@ -1,4 +1,5 @@
 use mk_files::TableFault;
+use mk_grading::GradeFault;
 
 /// A file of a project.
 #[derive(Clone, Copy, Debug, PartialEq, Eq)]
@@ -8,7 +9,7 @@ pub enum InputFile {
     Grade,
 }
 
-/// What is wrong with the input. Tried in this order.
+/// What is wrong with the input. Tried in this order, file by file.
 #[derive(Clone, Copy, Debug, PartialEq, Eq)]
 pub enum InputFault {
     /// The project's `.lat` is not there.
@@ -17,6 +18,6 @@ pub enum InputFault {
     FileSize { file: InputFile, read: u64 },
     /// A file is no table.
     Table { file: InputFile, fault: TableFault },
-    /// Some row has a sum other than 0.
-    NoGrading,
+    /// No grading is chosen.
+    Grade(GradeFault),
 }

@@ -1,20 +1,10 @@
-use Rattle.std.proofs.Common.{◌≡◌, arith}
-use Rattle.std.proofs.lemmas.Int.{ints}
-use Rattle.mk_files.proofs.NumbersRead.{IsNumber-same}
+use Rattle.std.proofs.Common.{Err, ap}
+use Rattle.mk_files.specs.declared.numbers.NumberFault.TheVariants.{NoNumber}
+use Rattle.mk_files.proofs.ErrorsPassed.{passed_on}
 use Rattle.mk_files.proofs.numbers.entry_of.Goals as goal
-use Rattle.mk_files.proofs.numbers.entry_of.Goals.{else-bounds-entry-via-then-bounds-entry+else-entry-bounds, else-bounds-entry-via-else-bounds-entry}
 
-pub returns-in_err-entry-clause-none : goal.returns-in_err-entry-clause-none
-returns-in_err-entry-clause-none c =
-    rw c.from_residual.ensures
-    (λ z within number. c.in_err-entry.ensures.none z (omega (arith, ints), omega (arith, ints)) number)
-
--- the token writes no other number
-pub returns-else-bounds-entry-clause-none : goal.returns-else-bounds-entry-clause-none
-returns-else-bounds-entry-clause-none c =
-    λ z within number.
-    let same : z ≡ c.in_ok-entry.entry = IsNumber-same _ z c.in_ok-entry.entry number c.in_ok-entry.ensures.found.1 in
-    elim c.else-bounds-entry.branch [
-      | else-bounds-entry-via-then-bounds-entry+else-entry-bounds w ↦ omega (arith, ints)
-      | else-bounds-entry-via-else-bounds-entry w ↦ omega (arith, ints)
-    ]
+pub returns-in_err-entry-clause-no_number : goal.returns-in_err-entry-clause-no_number
+returns-in_err-entry-clause-no_number c =
+    λ is.
+    let e = passed_on c.from_residual.result c.in_err-entry.field-0.0 NoNumber c.from_residual.ensures.1 is in
+    c.in_err-entry.ensures.no_number (ap Err e)

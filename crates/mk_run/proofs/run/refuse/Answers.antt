@@ -1,11 +1,11 @@
 use Rattle.std.proofs.Common.{◌≡◌, List, ℕ, subst, inl, inr, refl, ap, ◌∙◌, Err, IsErrOf}
-use Rattle.mk_run.specs.Folders.{WhereTold}
+use Rattle.mk_desk.specs.Folders.{WhereTold}
 use Rattle.mk_run.specs.Runs.{SaysLine}
-use Rattle.mk_run.specs.Transfers.{SaysAll}
-use Rattle.mk_run.specs.declared.folder.DeskFault.{DeskFault}
-use Rattle.mk_run.specs.declared.folder.DeskFault.TheVariants.{Failed}
-use Rattle.mk_run.specs.declared.folder.Channel.TheVariants.{Err as OnErrors}
-use Rattle.mk_run.proofs.Telling.{where_told_weaker}
+use Rattle.mk_desk.specs.Transfers.{SaysAll}
+use Rattle.mk_desk.specs.declared.folder.DeskFault.{DeskFault}
+use Rattle.mk_desk.specs.declared.folder.DeskFault.TheVariants.{Failed}
+use Rattle.mk_desk.specs.declared.folder.Channel.TheVariants.{Err as OnErrors}
+use Rattle.mk_desk.proofs.Telling.{where_told_weaker}
 use Rattle.mk_run.proofs.Endings.{line_said}
 use Rattle.mk_run.proofs.run.refuse.Goals as goal
 use Rattle.mk_run.proofs.run.refuse.Goals.{After-say_all}

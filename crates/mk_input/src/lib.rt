@@ -1,0 +1,17 @@
+//! What a project's files give: the lattice's table and the grading that is chosen for it, or what is wrong first.
+#![tactic(auto)]
+
+mod fault;
+mod laws;
+mod names;
+mod problem;
+mod reading;
+#[cfg(test)]
+mod tests;
+
+pub use fault::ReadFault;
+pub use laws::{faults_exclude_each_other, problem_has_no_fault};
+pub use mk_solve::{InputFault, InputFile};
+pub use names::file_name;
+pub use problem::Problem;
+pub use reading::read_project;

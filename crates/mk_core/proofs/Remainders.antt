@@ -4,12 +4,11 @@ use Rattle.mk_model.specs.CoreStates.{Pair, difference}
 use Rattle.mk_model.specs.Overflows.{IsGenuineOverflow}
 use Rattle.mk_model.specs.Reductions.{Reduct}
 use Rattle.mk_move.specs.Moves.{Weighed}
-use Rattle.mk_move.specs.MoveLists.{TheBasis, vectors_of}
+use Rattle.mk_move.specs.MoveLists.{TheBasis, vector_of, vectors_of}
 use Rattle.mk_reduce.specs.Stops.{overflow_of, IsDifferenceRefused, IsStepRefused}
 use Rattle.mk_reduce.specs.Works.{TheWork, WorkOf, IsRest, rest_of, IsReduced}
 use Rattle.mk_reduce.specs.declared.stop.Stop.{Stop}
 use Rattle.mk_reduce.specs.declared.stop.Stop.TheVariants.{Memory, Overflow}
-use Rattle.mk_ledger.specs.Halts.{operand_of}
 use Rattle.mk_core.specs.Remainders.{IsRemainder, IsWorkFault, fault_for}
 
 module _ (basis : TheBasis) (pair : Pair) where
@@ -31,4 +30,4 @@ difference_fault moves pair (Overflow by at) (e, genuine) = (refl, genuine)
 pub step_fault : (moves : List Weighed) (pair : Pair) (kept : Option Weighed) (stop : Stop) → IsStepRefused moves pair kept stop → IsWorkFault (vectors_of moves) pair (fault_for pair kept stop)
 step_fault moves pair kept Memory h = tt
 step_fault moves pair kept (Overflow by at) (m, e, place, f, genuine) =
-    (refl, subst (λ operand. IsGenuineOverflow (vectors_of moves) (overflow_of pair operand by at)) (sym (ap operand_of e)) genuine)
+    (refl, subst (λ operand. IsGenuineOverflow (vectors_of moves) (overflow_of pair operand by at)) (sym (ap vector_of e)) genuine)

@@ -13,8 +13,8 @@ use Rattle.mk_reduce.specs.declared.stop.Stop.TheVariants.{Memory as StopMemory,
 use Rattle.mk_ledger.specs.Halts.{stop_of}
 use Rattle.mk_ledger.specs.Ledgers.{TheLedger}
 use Rattle.mk_core.specs.GoingOn.{FirstClaims}
-use Rattle.mk_core.specs.declared.completion.WorkFault.{WorkFault}
-use Rattle.mk_core.specs.declared.completion.WorkFault.TheVariants.{Memory, Overflow}
+use Rattle.mk_core.specs.declared.work.WorkFault.{WorkFault}
+use Rattle.mk_core.specs.declared.work.WorkFault.TheVariants.{Memory, Overflow}
 
 -- a graded move that is a reduct of the pair's difference, and normal
 pub record IsNormalRest (basis : TheBasis) (pair : Pair) (m : Weighed) : Type 0 where

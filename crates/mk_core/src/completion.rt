@@ -1,20 +1,21 @@
 //! Completion by one worker: pair after pair is claimed, its difference reduced, and the pair settled.
 
-ghost use Rattle.std.specs.Prelude.{◌≡◌, ◌≢◌, ◌≤◌, ◌<◌, ℕ, length, None, Some, Ok, Err, IfOk, IfErr, OnOk, OnErr, MatchResult};
-ghost use Rattle.mk_model.specs.CoreStates.{Halt, pair_of, claim_of, halt_of, IsPairOf};
+ghost use Rattle.std.specs.Prelude.{◌≡◌, ◌≢◌, ◌≤◌, ◌<◌, ℕ, length, None, Some, Ok, Err, IfOk, IfErr, OnOk, OnErr};
+ghost use Rattle.mk_model.specs.CoreStates.{Halt, pair_of, claim_of, halt_of};
 ghost use Rattle.mk_model.specs.Legal.{IsEnded};
 ghost use Rattle.mk_move.specs.MoveLists.{vectors_of};
 ghost use Rattle.mk_reduce.specs.Leads.{leads_of};
 ghost use Rattle.mk_core.specs.GoingOn.{GoesOn, GoesOnUnclaimed, IsPairGiven, NoneClaims, FirstClaims, EndsBy, IsPhaseOf};
 ghost use Rattle.mk_core.specs.Phases.{ledger_for, Finishes, HandsOn};
-ghost use Rattle.mk_core.specs.Remainders.{IsRemainder, IsRemainderOfClaim, IsWorkFault, fault_for};
+ghost use Rattle.mk_core.specs.Remainders.{IsRemainderOfClaim};
 
 use crate::completed::Completed;
 use crate::phase::{Job, Phase, Stopped};
-use mk_ledger::{Claim, Ledger, LedgerParts, OverflowStop, PlaceFault};
+use crate::work::{WorkFault, work_on};
+use mk_ledger::{Claim, Ledger, LedgerParts, PlaceFault};
 use mk_model::NoMemory;
 use mk_move::{Basis, Finder, Move};
-use mk_reduce::{PlainFinder, Stop, critical, reduce};
+use mk_reduce::PlainFinder;
 use std::alloc::Global;
 
 /// Completes the start of a job: settles each pair of the basis, in their order, until every pair is joined below. A pair
@@ -59,13 +60,6 @@ enum Ending {
     Ended,
     OverBudget,
     Halted,
-}
-
-/// Why the work on a pair stops: want of memory, or an entry that leaves its range.
-#[derive(Debug, Drop)]
-enum WorkFault {
-    Memory,
-    Overflow(OverflowStop),
 }
 
 /// A finder of the leads of a basis, in their order.
@@ -137,44 +131,6 @@ fn settle_pair(
             Ok(())
         }
         Err(WorkFault::Memory) => Err(NoMemory),
-    }
-}
-
-/// What is left of the difference of a pair, reduced by the basis: none for zero.
-fn work_on(
-    alloc: Global,
-    basis: &Basis,
-    finder: &PlainFinder,
-    i: u32,
-    j: u32,
-) -> Result<Option<Move>, WorkFault>
-    requires leads { finder.now ≡ leads_of basis.now.moves }
-    requires pair { IsPairOf (vectors_of basis.now.moves) (pair_of i j) }
-    ensures { MatchResult result (IsRemainder basis.now (pair_of i j)) (IsWorkFault (vectors_of basis.now.moves) (pair_of i j)) }
-{
-    let mut work = match critical(alloc, basis, i, j) {
-        Ok(work) => work,
-        Err(stop) => return Err(work_fault(i, j, None, stop)),
-    };
-    match reduce(alloc, &mut work, basis, finder) {
-        Ok(()) => Ok(work.into_remainder()),
-        Err(stop) => Err(work_fault(i, j, work.into_remainder(), stop)),
-    }
-}
-
-/// The fault for a stop of the work on a pair, where so much was left.
-fn work_fault(i: u32, j: u32, operand: Option<Move>, stop: Stop) -> WorkFault
-    ensures { result ≡ fault_for (pair_of i j) operand stop }
-{
-    match stop {
-        Stop::Memory => WorkFault::Memory,
-        Stop::Overflow { by, at } => WorkFault::Overflow(OverflowStop {
-            i,
-            j,
-            by,
-            operand,
-            at,
-        }),
     }
 }
 

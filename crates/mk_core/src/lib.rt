@@ -6,6 +6,7 @@ mod completion;
 mod dropping;
 mod phase;
 mod saturated;
+mod work;
 
 pub use completed::Completed;
 pub use completion::{complete_alone, finder_of, finish_alone};
@@ -13,3 +14,4 @@ pub use dropping::drop_redundant;
 pub use mk_ledger::{Journal, JournalEntry, Kind};
 pub use phase::{Job, Phase, Stopped};
 pub use saturated::SaturatedBasis;
+pub use work::{WorkFault, work_on};

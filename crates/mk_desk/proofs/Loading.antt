@@ -3,7 +3,7 @@ use Rattle.std.proofs.Common.{◌≡◌, ℕ, ◌+◌, ◌<◌, ◌≤◌, List,
 use Rattle.std.proofs.lemmas.List.{append-nil, length-take-le}
 use Rattle.std.specs.declared.alloc.Global.{Global}
 use Rattle.mk_desk.specs.Folders.{Desk, State, HasCause, Reads}
-use Rattle.mk_desk.specs.Transfers.{LoadHasCause, ReadsRest, passed_on}
+use Rattle.mk_desk.specs.Transfers.{ReadsRest, passed_on}
 use Rattle.mk_desk.proofs.Telling.{rose_earlier}
 use Rattle.mk_desk.specs.declared.folder.DeskFault.{DeskFault}
 use Rattle.mk_desk.specs.declared.folder.DeskFault.TheVariants as desk
@@ -80,7 +80,7 @@ failed_by_folder desk.Memory e = cc
 failed_by_folder desk.Failed e = refl
 
 pub cause_passed_on : (T U : Type 0) (a b c : State) (fault : DeskFault) (result : Result T LoadFault) → IsErrAnd result (λ e. e ≡ passed_on fault)
-    → a.faults ≤ b.faults → HasCause {T = U} b c (Err fault) → LoadHasCause a c result
+    → a.faults ≤ b.faults → HasCause {T = U} desk.Failed b c (Err fault) → HasCause Failed a c result
 cause_passed_on T U a b c fault result is before cause = record {
   later = let after = cause.later in omega arith;
   failed = λ failed.
@@ -89,7 +89,7 @@ cause_passed_on T U a b c fault result is before cause = record {
 }
 
 -- a load that did not fail asks for no cause
-pub no_cause : {T : Type 0} (a b c : State) (result : Result T LoadFault) → a.faults ≤ b.faults → b.faults ≤ c.faults → (IsErrOf result Failed → ⊥) → LoadHasCause a c result
+pub no_cause : {T : Type 0} (a b c : State) (result : Result T LoadFault) → a.faults ≤ b.faults → b.faults ≤ c.faults → (IsErrOf result Failed → ⊥) → HasCause Failed a c result
 no_cause a b c result before after not_failed = record {
   later = omega arith;
   failed = λ failed. absurd (not_failed failed);

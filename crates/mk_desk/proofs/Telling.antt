@@ -3,6 +3,7 @@ use Rattle.std.proofs.Common.{◌≡◌, ℕ, ◌+◌, ◌≤◌, List, ◌++◌
 use Rattle.std.proofs.Math.Seq.{take-add}
 use Rattle.mk_desk.specs.Folders.{Desk, State, HasCause, WhereTold, Rose, said}
 use Rattle.mk_desk.specs.declared.folder.DeskFault.{DeskFault}
+use Rattle.mk_desk.specs.declared.folder.DeskFault.TheVariants.{Failed}
 use Rattle.mk_desk.specs.declared.folder.Channel.{Channel}
 use Rattle.mk_desk.specs.declared.folder.Channel.TheVariants.{Out, Err as OnErrors}
 
@@ -32,7 +33,7 @@ pub rose_earlier : (a b c : ℕ) → a ≤ b → Rose b c → Rose a c
 rose_earlier a b c h r = elim r [ inl up ↦ inl (omega arith) | inr full ↦ inr full ]
 
 -- a call's cause, said from an earlier state
-pub has_cause_earlier : {T : Type 0} (a b c : State) (result : Result T DeskFault) → a.faults ≤ b.faults → HasCause b c result → HasCause a c result
+pub has_cause_earlier : {T : Type 0} (a b c : State) (result : Result T DeskFault) → a.faults ≤ b.faults → HasCause Failed b c result → HasCause Failed a c result
 has_cause_earlier a b c result h cause = record {
   later = let up = cause.later in omega arith;
   failed = λ failed. rose_earlier a.faults b.faults c.faults h (cause.failed failed);

@@ -4,7 +4,6 @@ use Rattle.std.specs.FinMap.{FinMap, get, insert}
 use Rattle.std.specs.Cmp.Lexicographic.{slice_cmp}
 use Rattle.std.specs.Ordering.{nat_cmp}
 use Rattle.mk_desk.specs.declared.folder.DeskFault.{DeskFault}
-use Rattle.mk_desk.specs.declared.folder.DeskFault.TheVariants.{Failed}
 use Rattle.mk_desk.specs.declared.folder.Found.{Found}
 use Rattle.mk_desk.specs.declared.folder.Found.TheVariants.{Here, Absent}
 use Rattle.mk_desk.specs.declared.folder.Channel.{Channel}
@@ -40,10 +39,10 @@ last_count = 2 ^ 64 - 1
 abbrev pub Rose : ℕ → ℕ → Type 0
 Rose before after = (before < after) ⊎ (after ≡ last_count)
 
--- The count of faults doesn't fall, and `Failed` is answered only where it rose.
-pub record HasCause {T : Type 0} (before after : State) (result : Result T DeskFault) : Type 0 where
+-- The count of faults doesn't fall, and this failure is answered only where it rose.
+pub record HasCause {T E : Type 0} (failure : E) (before after : State) (result : Result T E) : Type 0 where
   pub later : before.faults ≤ after.faults
-  pub failed : IsErrOf result Failed → Rose before.faults after.faults
+  pub failed : IsErrOf result failure → Rose before.faults after.faults
 
 -- A folder tells after a call exactly where it told before it, and then the change is such.
 abbrev pub WhereTold : Option Desk → Option Desk → (Desk → Desk → Type 0) → Type 0

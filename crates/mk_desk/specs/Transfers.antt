@@ -1,8 +1,8 @@
 -- What the loops over a folder do: a whole file read, a whole piece put or said.
-use Rattle.std.specs.Prelude.{◌≡◌, ℕ, ◌<◌, ◌≤◌, List, ◌++◌, length, take, Option, Some, None, Result, Ok, Err, Vec, IsSomeAnd, IsErrOf}
+use Rattle.std.specs.Prelude.{◌≡◌, ℕ, ◌<◌, ◌≤◌, List, ◌++◌, length, take, Option, Some, None, Result, Ok, Err, Vec, IsSomeAnd}
 use Rattle.std.specs.declared.alloc.Global.{Global}
 use Rattle.std.specs.FinMap.{get}
-use Rattle.mk_desk.specs.Folders.{Desk, State, Rose, said}
+use Rattle.mk_desk.specs.Folders.{Desk, said}
 use Rattle.mk_desk.specs.declared.folder.DeskFault.{DeskFault}
 use Rattle.mk_desk.specs.declared.folder.DeskFault.TheVariants as desk
 use Rattle.mk_desk.specs.declared.folder.Channel.{Channel}
@@ -13,11 +13,6 @@ use Rattle.mk_desk.specs.declared.transfer.LoadFault.TheVariants.{Memory, Failed
 abbrev pub passed_on : DeskFault → LoadFault
 passed_on desk.Memory = Memory
 passed_on desk.Failed = Failed
-
--- A load's count of faults doesn't fall, and `Failed` is answered only where it rose.
-pub record LoadHasCause {T : Type 0} (before after : State) (result : Result T LoadFault) : Type 0 where
-  pub later : before.faults ≤ after.faults
-  pub failed : IsErrOf result Failed → Rose before.faults after.faults
 
 -- The bytes are those of the file, and no more than the limit; a file that is too long has more.
 abbrev pub IsFileWithin : ℕ → Result (Vec ℕ Global) LoadFault → List ℕ → Type 0

@@ -48,7 +48,7 @@ pub trait Folder {
         ensures found { (state self.new).found ≡ result_ok result }
         ensures given { (state self.new).given ≡ 0 }
         ensures making { (state self.new).making ≡ (state self.old).making }
-        ensures cause { HasCause (state self.old) (state self.new) result }
+        ensures cause { HasCause DeskFault.Failed (state self.old) (state self.new) result }
         ensures told { WhereTold (told self.old) (told self.new) (StartsReading name.now result) };
 
     /// Reads the next bytes into the front of `into`, and tells how many: 0 at the file's end.
@@ -59,7 +59,7 @@ pub trait Folder {
         ensures given { (state self.new).given ≡ given_after (state self.old).given result }
         ensures found { (state self.new).found ≡ (state self.old).found }
         ensures making { (state self.new).making ≡ (state self.old).making }
-        ensures cause { HasCause (state self.old) (state self.new) result }
+        ensures cause { HasCause DeskFault.Failed (state self.old) (state self.new) result }
         ensures told { WhereTold (told self.old) (told self.new) (Reads into.new result) };
 
     /// Begins to make a file. It is empty, and not yet among the files.
@@ -68,7 +68,7 @@ pub trait Folder {
         ensures making { (state self.new).making ≡ is_ok result }
         ensures found { (state self.new).found ≡ (state self.old).found }
         ensures given { (state self.new).given ≡ (state self.old).given }
-        ensures cause { HasCause (state self.old) (state self.new) result }
+        ensures cause { HasCause DeskFault.Failed (state self.old) (state self.new) result }
         ensures told { WhereTold (told self.old) (told self.new) (StartsWriting name.now result) };
 
     /// Appends a front of the piece to the file being made, and tells its length.
@@ -79,7 +79,7 @@ pub trait Folder {
         ensures making { (state self.new).making ≡ true }
         ensures found { (state self.new).found ≡ (state self.old).found }
         ensures given { (state self.new).given ≡ (state self.old).given }
-        ensures cause { HasCause (state self.old) (state self.new) result }
+        ensures cause { HasCause DeskFault.Failed (state self.old) (state self.new) result }
         ensures told { WhereTold (told self.old) (told self.new) (Writes piece.now result) };
 
     /// Puts the file that was made among the files, in the place of an older one of its name. It is no longer being made.
@@ -88,7 +88,7 @@ pub trait Folder {
         ensures making { (state self.new).making ≡ false }
         ensures found { (state self.new).found ≡ (state self.old).found }
         ensures given { (state self.new).given ≡ (state self.old).given }
-        ensures cause { HasCause (state self.old) (state self.new) result }
+        ensures cause { HasCause DeskFault.Failed (state self.old) (state self.new) result }
         ensures told { WhereTold (told self.old) (told self.new) (EndsWriting result) };
 
     /// Says a front of the piece on a channel, and tells its length.
@@ -98,6 +98,6 @@ pub trait Folder {
         ensures making { (state self.new).making ≡ (state self.old).making }
         ensures found { (state self.new).found ≡ (state self.old).found }
         ensures given { (state self.new).given ≡ (state self.old).given }
-        ensures cause { HasCause (state self.old) (state self.new) result }
+        ensures cause { HasCause DeskFault.Failed (state self.old) (state self.new) result }
         ensures told { WhereTold (told self.old) (told self.new) (Says channel piece.now result) };
 }

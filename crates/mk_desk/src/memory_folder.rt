@@ -139,7 +139,7 @@ impl Folder for MemoryFolder {
         ensures state { state_of self.new
             ≡ record (state_of self.old) { found = result_ok result; given = 0; faults = (state_of self.new).faults } }
         ensures desk { StartsReading name.now result (desk_of self.old) (desk_of self.new) }
-        ensures cause { HasCause (state_of self.old) (state_of self.new) result }
+        ensures cause { HasCause DeskFault.Failed (state_of self.old) (state_of self.new) result }
         ensures call { IsNextCall self.old self.new result }
     {
         self.kept.end_reading();
@@ -154,7 +154,7 @@ impl Folder for MemoryFolder {
         ensures state { state_of self.new
             ≡ record (state_of self.old) { given = given_after (state_of self.old).given result; faults = (state_of self.new).faults } }
         ensures desk { Reads into.new result (desk_of self.old) (desk_of self.new) }
-        ensures cause { HasCause (state_of self.old) (state_of self.new) result }
+        ensures cause { HasCause DeskFault.Failed (state_of self.old) (state_of self.new) result }
         ensures call { IsNextCall self.old self.new result }
     {
         self.calls.begin()?;
@@ -167,7 +167,7 @@ impl Folder for MemoryFolder {
         ensures state { state_of self.new
             ≡ record (state_of self.old) { making = is_ok result; faults = (state_of self.new).faults } }
         ensures desk { StartsWriting name.now result (desk_of self.old) (desk_of self.new) }
-        ensures cause { HasCause (state_of self.old) (state_of self.new) result }
+        ensures cause { HasCause DeskFault.Failed (state_of self.old) (state_of self.new) result }
         ensures call { IsNextCall self.old self.new result }
     {
         self.calls.begin()?;
@@ -180,7 +180,7 @@ impl Folder for MemoryFolder {
         ensures within { IfOk result (λ n. (0 < n) × (n ≤ min (length piece.now) (chunk_of self.old))) }
         ensures state { state_of self.new ≡ record (state_of self.old) { faults = (state_of self.new).faults } }
         ensures desk { Writes piece.now result (desk_of self.old) (desk_of self.new) }
-        ensures cause { HasCause (state_of self.old) (state_of self.new) result }
+        ensures cause { HasCause DeskFault.Failed (state_of self.old) (state_of self.new) result }
         ensures call { IsNextCall self.old self.new result }
     {
         self.calls.begin()?;
@@ -193,7 +193,7 @@ impl Folder for MemoryFolder {
         ensures state { state_of self.new
             ≡ record (state_of self.old) { making = false; faults = (state_of self.new).faults } }
         ensures desk { EndsWriting result (desk_of self.old) (desk_of self.new) }
-        ensures cause { HasCause (state_of self.old) (state_of self.new) result }
+        ensures cause { HasCause DeskFault.Failed (state_of self.old) (state_of self.new) result }
         ensures call { IsNextCall self.old self.new result }
     {
         if let Err(fault) = self.calls.begin() {
@@ -208,7 +208,7 @@ impl Folder for MemoryFolder {
         ensures within { IfOk result (λ n. (0 < n) × (n ≤ min (length piece.now) (chunk_of self.old))) }
         ensures state { state_of self.new ≡ record (state_of self.old) { faults = (state_of self.new).faults } }
         ensures desk { Says channel piece.now result (desk_of self.old) (desk_of self.new) }
-        ensures cause { HasCause (state_of self.old) (state_of self.new) result }
+        ensures cause { HasCause DeskFault.Failed (state_of self.old) (state_of self.new) result }
         ensures call { IsNextCall self.old self.new result }
     {
         self.calls.begin()?;

@@ -2,7 +2,7 @@
 
 ghost use Rattle.std.specs.Prelude.{◌≡◌, ◌+◌, ◌-◌, ◌<◌, ◌≤◌, ◌^◌, ◌↔◌, ℕ, true, [], vec_len, IfOk, IfSome, IsOk, IsErrOf};
 ghost use Rattle.mk_desk.specs.Folders.{HasCause, WhereTold, last_count};
-ghost use Rattle.mk_desk.specs.Transfers.{LoadHasCause, Loads, ReadsRest, PutsAll, SaysAll, passed_on};
+ghost use Rattle.mk_desk.specs.Transfers.{Loads, ReadsRest, PutsAll, SaysAll, passed_on};
 ghost use Rattle.mk_desk.specs.declared.folder.Found.TheVariants.{Here, Absent};
 ghost use Rattle.mk_desk.specs.declared.transfer.LoadFault.TheVariants.{Memory, FileSize};
 
@@ -62,7 +62,7 @@ pub fn load<F: Folder>(
     ensures size_here { (read : ℕ) → IsErrOf result (FileSize read) → (F.state folder.new).found ≡ Some Here }
     ensures absent { result ≡ Ok None → (F.state folder.new).given ≡ 0 }
     ensures making { (F.state folder.new).making ≡ (F.state folder.old).making }
-    ensures cause { LoadHasCause (F.state folder.old) (F.state folder.new) result }
+    ensures cause { HasCause LoadFault.Failed (F.state folder.old) (F.state folder.new) result }
     ensures told { WhereTold (F.told folder.old) (F.told folder.new) (Loads name.now limit result) }
 {
     match folder.start_read(name)? {
@@ -81,7 +81,7 @@ fn read_rest<F: Folder>(alloc: Global, folder: &mut F, limit: u64) -> Result<Vec
     ensures size { (result ≡ Err (FileSize (limit + 1))) ↔ ((F.state folder.new).given ≡ limit + 1) }
     ensures one_size { (read : ℕ) → IsErrOf result (FileSize read) → read ≡ limit + 1 }
     ensures making { (F.state folder.new).making ≡ (F.state folder.old).making }
-    ensures cause { LoadHasCause (F.state folder.old) (F.state folder.new) result }
+    ensures cause { HasCause LoadFault.Failed (F.state folder.old) (F.state folder.new) result }
     ensures told { WhereTold (F.told folder.old) (F.told folder.new) (ReadsRest limit result) }
 {
     let mut bytes = Vec::new(alloc);
@@ -108,7 +108,7 @@ pub fn put_all<F: Folder>(folder: &mut F, piece: &[u8]) -> Result<(), DeskFault>
     ensures making { (F.state folder.new).making ≡ true }
     ensures found { (F.state folder.new).found ≡ (F.state folder.old).found }
     ensures given { (F.state folder.new).given ≡ (F.state folder.old).given }
-    ensures cause { HasCause (F.state folder.old) (F.state folder.new) result }
+    ensures cause { HasCause DeskFault.Failed (F.state folder.old) (F.state folder.new) result }
     ensures empty { piece.now ≡ [] → IsOk result × (folder.new ≡ folder.old) }
     ensures told { WhereTold (F.told folder.old) (F.told folder.new) (PutsAll piece.now result) }
 {
@@ -126,7 +126,7 @@ pub fn say_all<F: Folder>(folder: &mut F, channel: Channel, piece: &[u8]) -> Res
     ensures making { (F.state folder.new).making ≡ (F.state folder.old).making }
     ensures found { (F.state folder.new).found ≡ (F.state folder.old).found }
     ensures given { (F.state folder.new).given ≡ (F.state folder.old).given }
-    ensures cause { HasCause (F.state folder.old) (F.state folder.new) result }
+    ensures cause { HasCause DeskFault.Failed (F.state folder.old) (F.state folder.new) result }
     ensures empty { piece.now ≡ [] → IsOk result × (folder.new ≡ folder.old) }
     ensures told { WhereTold (F.told folder.old) (F.told folder.new) (SaysAll channel piece.now result) }
 {

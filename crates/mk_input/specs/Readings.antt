@@ -3,7 +3,7 @@ use Rattle.std.specs.Prelude.{◌≡◌, ◌⊎◌, ℕ, ◌+◌, ◌≤◌, Lis
 use Rattle.mk_model.specs.Tables.{Grid, Limits}
 use Rattle.mk_files.specs.declared.fault.TableFault.{TableFault}
 use Rattle.mk_files.specs.declared.fault.TableFault.TheVariants as table
-use Rattle.mk_desk.specs.Folders.{Desk, State, Rose}
+use Rattle.mk_desk.specs.Folders.{Desk, State}
 use Rattle.mk_desk.specs.declared.folder.Found.TheVariants.{Here, Absent}
 use Rattle.mk_desk.specs.declared.transfer.LoadFault.{LoadFault}
 use Rattle.mk_desk.specs.declared.transfer.LoadFault.TheVariants as load
@@ -49,11 +49,6 @@ ReadsProject project (Ok problem) before after = IsProblem (project_files before
 ReadsProject project (Err (Input fault)) before after = IsFaulty (project_files before.files project) fault × OnlyRead before after
 ReadsProject project (Err Memory) before after = OnlyRead before after
 ReadsProject project (Err Failed) before after = OnlyRead before after
-
--- The faults don't fall, and `Failed` is answered only where they rose.
-pub record ReadHasCause {T : Type 0} (before after : State) (result : Result T ReadFault) : Type 0 where
-  pub later : before.faults ≤ after.faults
-  pub failed : IsErrOf result Failed → Rose before.faults after.faults
 
 -- What every folder showed at a fault: the lattice's file absent; a file with one byte more than the limit given; a whole
 -- file given that is no table; or whole files alone.

@@ -4,9 +4,9 @@ ghost use Rattle.mk_model.specs.Tables.{rows_of, ReadsTable};
 ghost use Rattle.mk_files.specs.Bounds.{limits_of, IsWithin};
 ghost use Rattle.mk_files.specs.Reading.{IsFaultOf};
 ghost use Rattle.mk_files.specs.declared.fault.TableFault.{TableFault};
-ghost use Rattle.mk_desk.specs.Folders.{WhereTold};
+ghost use Rattle.mk_desk.specs.Folders.{HasCause, WhereTold};
 ghost use Rattle.mk_input.specs.Projects.{file_limit};
-ghost use Rattle.mk_input.specs.Readings.{table_refused, IsShown, ReadHasCause, ReadsFile, ReadsProject};
+ghost use Rattle.mk_input.specs.Readings.{table_refused, IsShown, ReadsFile, ReadsProject};
 
 use crate::fault::ReadFault;
 use crate::names::input_name;
@@ -46,7 +46,7 @@ pub fn read_project<F: Folder>(
 ) -> Result<Problem, ReadFault>
     ensures positive { IfOk result (λ problem. IsGrading problem.lat.columns (rows_of problem.lat) problem.grading) }
     ensures making { (F.state folder.new).making ≡ (F.state folder.old).making }
-    ensures cause { ReadHasCause (F.state folder.old) (F.state folder.new) result }
+    ensures cause { HasCause ReadFault.Failed (F.state folder.old) (F.state folder.new) result }
     ensures shown { IsShown (F.state folder.new) result }
     ensures told { WhereTold (F.told folder.old) (F.told folder.new) (ReadsProject project.now result) }
 {
@@ -76,7 +76,7 @@ fn read_file<F: Folder>(
     ensures absent { result ≡ Ok None → (F.state folder.new).found ≡ Some Found.Absent }
     ensures given { OnOk result ((F.state folder.new).given ≤ file_limit) }
     ensures making { (F.state folder.new).making ≡ (F.state folder.old).making }
-    ensures cause { ReadHasCause (F.state folder.old) (F.state folder.new) result }
+    ensures cause { HasCause ReadFault.Failed (F.state folder.old) (F.state folder.new) result }
     ensures shown { IsShown (F.state folder.new) result }
     ensures told { WhereTold (F.told folder.old) (F.told folder.new) (ReadsFile file (limits_of bounds.now) project.now result) }
 {

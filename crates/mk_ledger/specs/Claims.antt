@@ -1,6 +1,6 @@
 -- What a worker is answered that asks for a pair, and when. The answers exclude one another, and each has its cause.
-use Rattle.std.specs.Prelude.{◌≡◌, ◌⊎◌, ℕ, ◌<◌, ◌≤◌, None, Some}
-use Rattle.mk_model.specs.CoreStates.{Pair, pair_of, CoreState, claim_of, IsPairOf, IsLesser, IsSettled, IsClaimed, IsFree}
+use Rattle.std.specs.Prelude.{◌≡◌, ℕ, None, Some}
+use Rattle.mk_model.specs.CoreStates.{Pair, pair_of, CoreState, claim_of, IsPairOf, IsLesser, IsSettled, IsFree}
 use Rattle.mk_model.specs.Events.{IsClaim, with_claim}
 use Rattle.mk_model.specs.Legal.{IsEnded}
 use Rattle.mk_ledger.specs.declared.claim.Claim.{Claim}

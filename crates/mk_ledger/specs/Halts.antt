@@ -1,20 +1,14 @@
 -- The halts that are kept, as those of the core state.
-use Rattle.std.specs.Prelude.{List, Option, None, Some, ℤ}
 use Rattle.mk_model.specs.CoreStates.{pair_of, OverflowStop, stop_at, Halt}
 use Rattle.mk_model.specs.CoreStates.Halt.{Overflow, Full, Memory}
-use Rattle.mk_move.specs.Moves.{Weighed}
+use Rattle.mk_move.specs.MoveLists.{vector_of}
 use Rattle.mk_ledger.specs.declared.halt.OverflowStop.{OverflowStop as Stopped}
 use Rattle.mk_ledger.specs.declared.halt.Halt.{Halt as Kept}
 use Rattle.mk_ledger.specs.declared.halt.Halt.TheVariants as kept
 
--- the vector of a move that is there
-abbrev pub operand_of : Option Weighed → Option (List ℤ)
-operand_of None = None
-operand_of (Some m) = Some m.entries
-
 -- an overflow's pair and numbers
 abbrev pub stop_of : Stopped → OverflowStop
-stop_of stop = stop_at (pair_of stop.i stop.j) stop.by (operand_of stop.operand) stop.at.column stop.at.left stop.at.times stop.at.right
+stop_of stop = stop_at (pair_of stop.i stop.j) stop.by (vector_of stop.operand) stop.at.column stop.at.left stop.at.times stop.at.right
 
 -- the halt of the core state
 abbrev pub halt_as : Kept → Halt

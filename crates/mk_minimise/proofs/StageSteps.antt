@@ -8,13 +8,13 @@ use Rattle.mk_model.specs.Orders.{lead}
 use Rattle.mk_model.specs.Overflows.{IsGenuineOverflow}
 use Rattle.mk_model.proofs.Journals.{IsGenuineOverflow-append}
 use Rattle.mk_move.specs.Moves.{Weighed}
-use Rattle.mk_move.specs.MoveLists.{TheBasis, BelongsTo, vectors_of}
+use Rattle.mk_move.specs.MoveLists.{TheBasis, BelongsTo, vector_of, vectors_of}
 use Rattle.mk_reduce.proofs.Beginnings.{vector_at, length-vectors_of}
 use Rattle.mk_inter.specs.Tails.{IsReducedList}
 use Rattle.mk_minimise.specs.declared.minimal.MinimiseFault.{MinimiseFault}
 use Rattle.mk_minimise.specs.declared.minimal.MinimiseFault.TheVariants.{Memory, Overflow}
 use Rattle.mk_minimise.specs.declared.overlaps.Overlap.{Overlap}
-use Rattle.mk_minimise.specs.Minimal.{IsPairOfDegree, IsPairFault, IsMinimiseFault, operand_of}
+use Rattle.mk_minimise.specs.Minimal.{IsPairOfDegree, IsPairFault, IsMinimiseFault}
 use Rattle.mk_minimise.specs.Overlaps.{IsOverlap, AreOverlaps, AreOfWeight}
 use Rattle.mk_minimise.specs.Stages.{weight_at, IsFront, IsWeightRun, HasLead, TellsLeast, AreChosen}
 use Rattle.mk_minimise.proofs.ChosenMoves.{chosen_more, chosen_skip}
@@ -92,7 +92,7 @@ module _ (basis : TheBasis) (h : IsReducedList basis) (lower : TheBasis) (front 
   pair_fault_is Memory f = tt
   pair_fault_is (Overflow i j by operand at) (e, genuine) = (
     of_degree i j e,
-    subst (λ (moves : List (List ℤ)). IsGenuineOverflow moves (stop_at (pair_of i j) by (operand_of operand) at.column at.left at.times at.right))
+    subst (λ (moves : List (List ℤ)). IsGenuineOverflow moves (stop_at (pair_of i j) by (vector_of operand) at.column at.left at.times at.right))
         (ap (λ xs. xs ++ drop (length lower.moves) rows) (vectors_are basis h lower front more) ∙ take-append-drop (length lower.moves) rows)
         (IsGenuineOverflow-append (vectors_of lower.moves) (drop (length lower.moves) rows) _ (subst (IsPairOf (vectors_of lower.moves)) (sym e) (overlap_pair basis h lower front more pair o weighs)) genuine),
   )

@@ -1,21 +1,14 @@
 -- The list of essential moves, and why it can't be found. (Sturmfels, chapter 5: minimal Markov bases)
-use Rattle.std.specs.Prelude.{◌≡◌, ℕ, ◌<◌, List, length, Contains, Option, None, Some, ℤ}
+use Rattle.std.specs.Prelude.{◌≡◌, ℕ, ◌<◌, List, length, Contains, ℤ}
 use Rattle.mk_model.specs.CoreStates.{Pair, pair_of, move_at, stop_at}
 use Rattle.mk_model.specs.Orders.{lead}
 use Rattle.mk_model.specs.Overflows.{IsGenuineOverflow}
 use Rattle.mk_model.specs.Pairs.{AreDisjoint}
 use Rattle.mk_model.specs.Reductions.{lcm}
 use Rattle.mk_model.specs.Vectors.{weight}
-use Rattle.mk_move.specs.Moves.{Weighed}
-use Rattle.mk_move.specs.MoveLists.{TheBasis, vectors_of}
-use Rattle.mk_reduce.specs.declared.stop.Stop.{Stop}
-use Rattle.mk_reduce.specs.declared.stop.Stop.TheVariants.{Memory as StopMemory, Overflow as StopOverflow}
+use Rattle.mk_move.specs.MoveLists.{TheBasis, vector_of, vectors_of}
 use Rattle.mk_minimise.specs.declared.minimal.MinimiseFault.{MinimiseFault}
 use Rattle.mk_minimise.specs.declared.minimal.MinimiseFault.TheVariants.{Memory, Overflow}
-
-abbrev pub operand_of : Option Weighed → Option (List ℤ)
-operand_of None = None
-operand_of (Some m) = Some m.entries
 
 -- Two places of the list, the lesser first: their leads overlap, and the weight of their least common multiple is the weight of
 -- a move of the list.
@@ -31,16 +24,11 @@ pub record IsPairOfDegree (w : List ℤ) (moves : List (List ℤ)) (i j : ℕ) :
 abbrev pub IsPairFault : List (List ℤ) → Pair → MinimiseFault → Type 0
 IsPairFault moves pair Memory = Unit {0}
 IsPairFault moves pair (Overflow i j by operand at) =
-    (pair_of i j ≡ pair) × IsGenuineOverflow moves (stop_at (pair_of i j) by (operand_of operand) at.column at.left at.times at.right)
-
--- the fault for a stop of the work on the pair, where so much was left
-abbrev pub fault_for : Pair → Option Weighed → Stop → MinimiseFault
-fault_for pair operand StopMemory = Memory
-fault_for pair operand (StopOverflow by at) = Overflow pair.first pair.second by operand at
+    (pair_of i j ≡ pair) × IsGenuineOverflow moves (stop_at (pair_of i j) by (vector_of operand) at.column at.left at.times at.right)
 
 -- An entry left the range at a pair of the list. No cause is given for want of memory.
 abbrev pub IsMinimiseFault : TheBasis → MinimiseFault → Type 0
 IsMinimiseFault basis Memory = Unit {0}
 IsMinimiseFault basis (Overflow i j by operand at) =
     IsPairOfDegree basis.grading (vectors_of basis.moves) i j
-    × IsGenuineOverflow (vectors_of basis.moves) (stop_at (pair_of i j) by (operand_of operand) at.column at.left at.times at.right)
+    × IsGenuineOverflow (vectors_of basis.moves) (stop_at (pair_of i j) by (vector_of operand) at.column at.left at.times at.right)

@@ -1,15 +1,12 @@
 -- One weight after another: the lower moves, the links of the weight, and the moves that are chosen.
 -- (Sturmfels, chapter 5: minimal generators, degree by degree)
-use Rattle.std.specs.Prelude.{◌≡◌, ◌⊎◌, ℕ, ◌≤◌, ◌<◌, List, length, take, All, AllPairs, Contains, Option, None, Some, ℤ, ◌<ℤ◌}
-use Rattle.mk_model.specs.CoreStates.{Pair, move_at, difference}
+use Rattle.std.specs.Prelude.{◌≡◌, ◌⊎◌, ℕ, ◌≤◌, ◌<◌, List, length, take, All, AllPairs, Contains, ℤ, ◌<ℤ◌}
+use Rattle.mk_model.specs.CoreStates.{move_at}
 use Rattle.mk_model.specs.Orders.{IsBelow, standard, lead, ComesBefore}
 use Rattle.mk_model.specs.ReducedBases.{LighterMoves, IsLeastOfComponent}
-use Rattle.mk_model.specs.Reductions.{Reduct, IsNormal}
-use Rattle.mk_model.specs.Vectors.{zeros, weight}
+use Rattle.mk_model.specs.Vectors.{weight}
 use Rattle.mk_model.specs.Walks.{Joined}
-use Rattle.mk_move.specs.Moves.{Weighed}
 use Rattle.mk_move.specs.MoveLists.{TheBasis, vectors_of}
-use Rattle.mk_reduce.specs.Works.{IsRest}
 
 -- the weight of the lead of a place
 abbrev pub weight_at : TheBasis → ℕ → ℤ
@@ -37,17 +34,6 @@ pub record IsWeightRun (basis : TheBasis) (start end : ℕ) : Type 0 where
   pub within : end ≤ length basis.moves
   pub same : (k : ℕ) → start ≤ k → k < end → weight_at basis k ≡ weight_at basis start
   pub cut : IsCut basis end
-
--- a graded move that is a reduct of the pair's difference, and normal
-pub record IsNormalRest (basis : TheBasis) (pair : Pair) (m : Weighed) : Type 0 where
-  pub reduct : Reduct (vectors_of basis.moves) (difference (vectors_of basis.moves) pair) m.entries
-  pub rest : IsRest basis.grading m
-  pub normal : IsNormal (vectors_of basis.moves) m.entries
-
--- what is left of the pair's difference
-abbrev pub IsRemainder : TheBasis → Pair → Option Weighed → Type 0
-IsRemainder basis pair None = Reduct (vectors_of basis.moves) (difference (vectors_of basis.moves) pair) (zeros (length basis.grading))
-IsRemainder basis pair (Some m) = IsNormalRest basis pair m
 
 -- one of the moves has this lead
 pub record HasLead (moves : List (List ℤ)) (x : List ℤ) : Type 0 where

@@ -5,17 +5,18 @@ ghost use Rattle.mk_move.specs.MoveLists.{BelongsTo, vectors_of};
 ghost use Rattle.mk_move.specs.Gradings.{AreWeights};
 ghost use Rattle.mk_reduce.specs.Works.{IsRest};
 ghost use Rattle.mk_inter.specs.Tails.{IsReducedList};
-ghost use Rattle.mk_minimise.specs.Minimal.{IsMinimiseFault, IsPairFault, fault_for};
+ghost use Rattle.mk_core.specs.Remainders.{IsRemainder};
+ghost use Rattle.mk_minimise.specs.Minimal.{IsMinimiseFault, IsPairFault};
 ghost use Rattle.mk_minimise.specs.Overlaps.{AreOverlaps};
-ghost use Rattle.mk_minimise.specs.Stages.{weight_at, IsFront, IsAsHeavy, IsWeightRun, IsRemainder, HasLead, TellsLeast, AreChosen};
+ghost use Rattle.mk_minimise.specs.Stages.{weight_at, IsFront, IsAsHeavy, IsWeightRun, HasLead, TellsLeast, AreChosen};
 
 use crate::links::{add_link, is_end};
 use crate::lower::Lower;
 use crate::minimal::MinimiseFault;
 use crate::overlaps::{Overlap, of_weight};
+use mk_core::{WorkFault, work_on};
 use mk_model::NoMemory;
 use mk_move::{Basis, Move, Side};
-use mk_reduce::{Stop, critical, reduce};
 use std::alloc::Global;
 
 /// The end of the run of moves of one weight that begins at a place.
@@ -71,29 +72,16 @@ fn remainder_of(alloc: Global, lower: &Lower, i: u32, j: u32) -> Result<Option<M
     requires pair { IsPairOf (vectors_of lower.now.moves) (pair_of i j) }
     ensures { MatchResult result (IsRemainder lower.now (pair_of i j)) (IsPairFault (vectors_of lower.now.moves) (pair_of i j)) }
 {
-    let mut work = match critical(alloc, lower.basis(), i, j) {
-        Ok(work) => work,
-        Err(stop) => return Err(pair_fault(i, j, None, stop)),
-    };
-    match reduce(alloc, &mut work, lower.basis(), lower.finder()) {
-        Ok(()) => Ok(work.into_remainder()),
-        Err(stop) => Err(pair_fault(i, j, work.into_remainder(), stop)),
-    }
-}
-
-/// The fault for a stop of the work on a pair, where so much was left.
-fn pair_fault(i: u32, j: u32, operand: Option<Move>, stop: Stop) -> MinimiseFault
-    ensures { result ≡ fault_for (pair_of i j) operand stop }
-{
-    match stop {
-        Stop::Memory => MinimiseFault::Memory,
-        Stop::Overflow { by, at } => MinimiseFault::Overflow {
-            i,
-            j,
-            by,
-            operand,
-            at,
-        },
+    match work_on(alloc, lower.basis(), lower.finder(), i, j) {
+        Ok(rest) => Ok(rest),
+        Err(WorkFault::Memory) => Err(MinimiseFault::Memory),
+        Err(WorkFault::Overflow(stop)) => Err(MinimiseFault::Overflow {
+            i: stop.i,
+            j: stop.j,
+            by: stop.by,
+            operand: stop.operand,
+            at: stop.at,
+        }),
     }
 }
 

@@ -1,10 +1,12 @@
 -- A vector of a lattice, and gradings, computed.
-use Rattle.std.proofs.Common.{◌≡◌, ℕ, zero, suc, ◌<◌, List, [], ◌∷◌, length, All, ℤ, pos, negsuc, ◌≤ℤ◌, arith, refl}
+use Rattle.std.proofs.Common.{◌≡◌, ℕ, zero, suc, ◌<◌, List, [], ◌∷◌, ◌++◌, length, None, Some, All, ℤ, pos, negsuc, ◌≤ℤ◌, arith, refl, inl}
 use Rattle.std.proofs.lemmas.List.{get_or-replicate, length-replicate}
 use Rattle.std.proofs.lemmas.List.Elements.{All-nil, All-cons}
 use Rattle.std.proofs.lemmas.Int.{ints}
 use Rattle.mk_model.specs.Vectors.{entry, combine, add, scale, weight}
-use Rattle.mk_model.specs.Lattices.{combination, InLattice, IsGrading, IsChosenGrading, ones}
+use Rattle.mk_model.specs.Lattices.{combination, InLattice, IsGrading, ones}
+use Rattle.mk_model.specs.ChosenGradings.{IsGradeOf}
+use Rattle.mk_model.specs.Tables.{Grid}
 
 pub in_lattice : InLattice 3 ((pos 1 ∷ negsuc 0 ∷ pos 0 ∷ []) ∷ (pos 0 ∷ pos 1 ∷ negsuc 0 ∷ []) ∷ []) (pos 1 ∷ pos 0 ∷ negsuc 0 ∷ [])
 unfolding combination combine add scale
@@ -28,9 +30,16 @@ first = pos 1 ∷ negsuc 1 ∷ pos 1 ∷ pos 0 ∷ []
 abbrev second : List ℤ
 second = pos 0 ∷ pos 1 ∷ negsuc 1 ∷ pos 1 ∷ []
 
-pub chosen : IsChosenGrading 4 (first ∷ second ∷ []) (ones 4)
+abbrev cubic : Grid
+cubic = record { rows = 2; columns = 4; entries = first ++ second }
+
+pub chosen : IsGradeOf cubic None None (ones 4)
 unfolding weight
-chosen = record { all_ones = refl; rows_weight = both (λ row. weight (ones 4) row ≡ pos 0) first second refl refl }
+chosen = record {
+  matrix_fits = tt;
+  grade_fits = tt;
+  source = inl (both (λ row. weight (ones 4) row ≡ pos 0) first second refl refl, refl);
+}
 
 abbrev weights : List ℤ
 weights = pos 3 ∷ pos 4 ∷ pos 5 ∷ []
@@ -54,4 +63,23 @@ grading = record {
   positive = at_least_one;
   rows_columns = both (λ row. length row ≡ 3) third fourth refl refl;
   rows_weight = both (λ row. weight weights row ≡ pos 0) third fourth refl refl;
+}
+
+abbrev curve : Grid
+curve = record { rows = 2; columns = 3; entries = third ++ fourth }
+
+abbrev grade : Grid
+grade = record { rows = 1; columns = 3; entries = weights }
+
+pub chosen_grade : IsGradeOf curve None (Some grade) weights
+unfolding weight
+chosen_grade = record {
+  matrix_fits = tt;
+  grade_fits = record {
+    shape = record { rows = refl; columns = refl };
+    positive = All-cons (λ k. pos 1 ≤ℤ k) (pos 3) (pos 4 ∷ pos 5 ∷ []) (omega (arith, ints))
+        (All-cons (λ k. pos 1 ≤ℤ k) (pos 4) (pos 5 ∷ []) (omega (arith, ints)) (All-cons (λ k. pos 1 ≤ℤ k) (pos 5) [] (omega (arith, ints)) (All-nil (λ k. pos 1 ≤ℤ k))));
+    products = both (λ row. weight weights row ≡ pos 0) third fourth refl refl;
+  };
+  source = refl;
 }

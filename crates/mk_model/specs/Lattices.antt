@@ -23,11 +23,6 @@ pub record IsGrading (n : ℕ) (rows : List (List ℤ)) (w : List ℤ) : Type 0 
 abbrev pub ones : ℕ → List ℤ
 ones n = replicate n (pos 1)
 
--- The grading that is chosen where the lattice comes alone: all ones, if each row has sum 0.
-pub record IsChosenGrading (n : ℕ) (rows : List (List ℤ)) (w : List ℤ) : Type 0 where
-  pub all_ones : w ≡ ones n
-  pub rows_weight : All (λ row. weight w row ≡ pos 0) rows
-
 -- has a row no entry but 0
 abbrev pub is_zero : List ℤ → Bool
 is_zero row = list_all (λ a. int_eq a (pos 0)) row

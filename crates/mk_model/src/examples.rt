@@ -2,7 +2,8 @@
 
 ghost use Rattle.std.specs.Prelude.{◌≡◌, [], ◌∷◌, ◌++◌, None, Some, All, AllPairs, pos, neg_ℤ, codes};
 ghost use Rattle.mk_model.specs.Vectors.{zeros, positive_part, negative_part, weight};
-ghost use Rattle.mk_model.specs.Lattices.{InLattice, IsGrading, IsChosenGrading, nonzero_rows, ones};
+ghost use Rattle.mk_model.specs.Lattices.{InLattice, IsGrading, nonzero_rows, ones};
+ghost use Rattle.mk_model.specs.ChosenGradings.{IsGradeOf};
 ghost use Rattle.mk_model.specs.Walks.{Joined, Members};
 ghost use Rattle.mk_model.specs.Orders.{standard, IsOriented, IsBelow, ComesBefore};
 ghost use Rattle.mk_model.specs.Bases.{IsMarkov, AreApart, IsTheAnswer};
@@ -28,8 +29,12 @@ pub fn vector_examples()
     ensures in_lattice { InLattice 3 ((pos 1 ∷ neg_ℤ (pos 1) ∷ pos 0 ∷ []) ∷ (pos 0 ∷ pos 1 ∷ neg_ℤ (pos 1) ∷ []) ∷ [])
         (pos 1 ∷ pos 0 ∷ neg_ℤ (pos 1) ∷ []) }
     ensures nonzero { nonzero_rows ((pos 0 ∷ pos 0 ∷ []) ∷ (pos 1 ∷ neg_ℤ (pos 1) ∷ []) ∷ []) ≡ (pos 1 ∷ neg_ℤ (pos 1) ∷ []) ∷ [] }
-    ensures chosen { IsChosenGrading 4
-        ((pos 1 ∷ neg_ℤ (pos 2) ∷ pos 1 ∷ pos 0 ∷ []) ∷ (pos 0 ∷ pos 1 ∷ neg_ℤ (pos 2) ∷ pos 1 ∷ []) ∷ []) (ones 4) }
+    ensures chosen { IsGradeOf
+        (record { rows = 2; columns = 4; entries = pos 1 ∷ neg_ℤ (pos 2) ∷ pos 1 ∷ pos 0 ∷ pos 0 ∷ pos 1 ∷ neg_ℤ (pos 2) ∷ pos 1 ∷ [] })
+        None None (ones 4) }
+    ensures chosen_grade { IsGradeOf
+        (record { rows = 2; columns = 3; entries = pos 1 ∷ neg_ℤ (pos 2) ∷ pos 1 ∷ pos 3 ∷ neg_ℤ (pos 1) ∷ neg_ℤ (pos 1) ∷ [] })
+        None (Some (record { rows = 1; columns = 3; entries = pos 3 ∷ pos 4 ∷ pos 5 ∷ [] })) (pos 3 ∷ pos 4 ∷ pos 5 ∷ []) }
     ensures grading { IsGrading 3
         ((pos 1 ∷ neg_ℤ (pos 2) ∷ pos 1 ∷ []) ∷ (pos 3 ∷ neg_ℤ (pos 1) ∷ neg_ℤ (pos 1) ∷ []) ∷ []) (pos 3 ∷ pos 4 ∷ pos 5 ∷ []) }
 {}

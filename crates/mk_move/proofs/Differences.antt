@@ -1,16 +1,12 @@
 -- A row minus a multiple of another, one column after another.
-use Rattle.std.proofs.Common.{◌≡◌, inl, inr, ℕ, ◌+◌, ◌*◌, ◌<◌, ◌≤◌, ◌^◌, List, [], ◌∷◌, ◌++◌, length, get_or, All, sym, ◌∙◌, ap, subst, arith, refl, ℤ, pos, neg_ℤ, ◌-ℤ◌, ◌*ℤ◌, ◌≤ℤ◌, ◌<ℤ◌, unsigned_abs}
-use mir.Syntax.{w64, w128}
-use mir.Val.{SFits, to_z, of_z}
-use Rattle.std.proofs.Math.Nat.{mul-le-mul}
-use Rattle.std.proofs.lemmas.Int.{ints, unsigned_abs-mul, to_z-of_z, fits_signed_from_abs}
+use Rattle.std.proofs.Common.{◌≡◌, inl, inr, ℕ, ◌+◌, ◌<◌, List, [], ◌∷◌, ◌++◌, length, All, sym, ◌∙◌, ap, subst, arith, ℤ, pos, ◌-ℤ◌, ◌*ℤ◌}
+use Rattle.std.proofs.lemmas.Int.{ints}
 use Rattle.std.proofs.lemmas.Bool.{cases_eq}
 use Rattle.std.proofs.lemmas.List.{ext_get_or, get_or_append_left, get_or_push, length_push}
 use Rattle.std.proofs.lemmas.List.Elements.{All-push}
-use Rattle.mk_model.specs.Vectors.{entry, subtract, scale, weight, positive_part, IsEntry}
-use Rattle.mk_model.proofs.VectorAlgebra.{lengths, entry-subtract, entry-scale, length-subtract, length-scale, weight-subtract, weight-scale}
+use Rattle.mk_model.specs.Vectors.{entry, scale, weight, IsEntry}
+use Rattle.mk_model.proofs.VectorAlgebra.{lengths, entry-subtract, entry-scale, weight-subtract, weight-scale}
 use Rattle.mk_move.specs.Steps.{minus_times, GivesEntries, GivesEntry}
-use Rattle.mk_move.proofs.Weights.{abs_bounds, IsEntry-fits}
 
 pub entry-minus_times : (x y : List ℤ) (times : ℤ) (c : ℕ) → entry (minus_times x times y) c ≡ entry x c -ℤ (times *ℤ entry y c)
 entry-minus_times x y times c = entry-subtract x (scale times y) c ∙ ap (λ z. entry x c -ℤ z) (entry-scale times y c)

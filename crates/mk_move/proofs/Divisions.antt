@@ -1,14 +1,14 @@
 -- Divisions of leads, one column after another.
-use Rattle.std.proofs.Common.{◌≡◌, ◌≢◌, ◌⊎◌, inl, inr, ℕ, zero, suc, ◌+◌, ◌*◌, ◌/◌, ◌<◌, ◌≤◌, min, List, length, All, arith, sym, ◌∙◌, ap, subst, ℤ, pos, neg_ℤ, negsuc, ◌≤ℤ◌, ◌<ℤ◌, ◌*ℤ◌, refl}
+use Rattle.std.proofs.Common.{◌≡◌, ◌≢◌, ◌⊎◌, inl, inr, ℕ, zero, suc, ◌+◌, ◌*◌, ◌/◌, ◌<◌, ◌≤◌, min, List, length, All, arith, sym, ◌∙◌, ap, subst, ℤ, pos, negsuc, ◌≤ℤ◌, ◌<ℤ◌, refl}
 use Rattle.std.specs.Int.{int_max, int_min}
 use Rattle.std.proofs.lemmas.Int.{ints, clamps}
 use Rattle.std.proofs.lemmas.Bool.{cases_lt}
 use Rattle.std.proofs.lemmas.List.{get_or_past}
 use Rattle.std.proofs.Math.Nat.{mul-le-mul_left, le-div_iff_mul-le}
 use borrow.Author.Count.{below_more}
-use borrow.Author.Differences.{up, down}
+use borrow.Author.Differences.{up}
 use Rattle.mk_model.specs.declared.TheConstants.{ENTRY_MAX}
-use Rattle.mk_model.specs.Vectors.{entry, zeros, scale, positive_part, negative_part, IsEntry}
+use Rattle.mk_model.specs.Vectors.{entry, zeros, scale, positive_part, IsEntry}
 use Rattle.mk_model.specs.Reductions.{Divides}
 use Rattle.mk_model.specs.Pairs.{AreDisjoint}
 use Rattle.mk_model.proofs.VectorAlgebra.{lengths, columns, positive_part_at, entry-positive_part, entry-negative_part, length-positive_part, length-negative_part, only_zeros}

@@ -1,5 +1,5 @@
 -- Lists of moves: by themselves, and with the grading and the priority list that they belong to.
-use Rattle.std.specs.Prelude.{◌≡◌, ℕ, ◌<◌, ◌^◌, List, length, map, All, ℤ}
+use Rattle.std.specs.Prelude.{◌≡◌, ℕ, ◌<◌, ◌^◌, List, length, map, All, ℤ, Option, None, Some}
 use Rattle.mk_model.specs.Orders.{IsOriented}
 use Rattle.mk_move.specs.Gradings.{AreWeights}
 use Rattle.mk_move.specs.Moves.{Weighed, IsGraded}
@@ -33,3 +33,8 @@ pub record IsBasis (basis : TheBasis) : Type 0 where
 -- the vectors of moves, in their order
 abbrev pub vectors_of : List Weighed → List (List ℤ)
 vectors_of moves = map (λ m. m.entries) moves
+
+-- the vector of a move, where there is one
+abbrev pub vector_of : Option Weighed → Option (List ℤ)
+vector_of None = None
+vector_of (Some m) = Some m.entries

@@ -2,7 +2,7 @@
 use Rattle.std.specs.Prelude.{◌≡◌, ◌⊎◌, ◌+◌, ℕ, ◌≤◌, List, take, false, Some, None, Result, Ok, Err, IsOk, IsErrOf}
 use Rattle.std.specs.FinMap.{insert}
 use Rattle.mk_move.specs.MoveLists.{TheList}
-use Rattle.mk_desk.specs.Folders.{Desk, State, Rose}
+use Rattle.mk_desk.specs.Folders.{Desk, State}
 use Rattle.mk_solve.specs.Books.{Book, settled_of}
 use Rattle.mk_solve.specs.declared.book.BookStop.{BookStop}
 use Rattle.mk_solve.specs.declared.fault.InputFile.{InputFile}
@@ -66,11 +66,6 @@ Answers project book (Err Stopped) before after =
     ((stop : BookStop) × (book.stop ≡ Some stop) × HasStop (project_files before.files project) book stop) × OnlyRead before after
 Answers project book (Err Memory) before after = LeavesBegun project book before after
 Answers project book (Err Failed) before after = LeavesBegun project book before after
-
--- The faults don't fall, and `Failed` is answered only where they rose.
-pub record RunHasCause {T : Type 0} (before after : State) (result : Result T RunFault) : Type 0 where
-  pub later : before.faults ≤ after.faults
-  pub failed : IsErrOf result Failed → Rose before.faults after.faults
 
 -- Each fault of the input is as the folder showed it, and one byte more than a file may have was given only where a file is too
 -- long, unless memory ran out.

@@ -1,12 +1,11 @@
 //! A run for a project, from the words to the exit status.
 
 ghost use Rattle.std.specs.Prelude.{◌≡◌, ◌⊎◌, ◌≤◌, ℕ, List, map, false, OnOk, string_bytes};
-ghost use Rattle.mk_desk.specs.Folders.{Rose, WhereTold};
+ghost use Rattle.mk_desk.specs.Folders.{HasCause, Rose, WhereTold};
 ghost use Rattle.mk_lines.specs.Lines.{input_line, stop_line};
 ghost use Rattle.mk_solve.specs.Books.{empty_book, settled_of};
-ghost use Rattle.mk_writer.specs.Writing.{WriteHasCause};
 ghost use Rattle.mk_run.specs.Runs.{default_budget, status_of, Ends, EndsUnnamed, HasCauseOf, InputIsShown, SaysLine};
-ghost use Rattle.mk_run.specs.Stages.{Answers, WritesAnswer, RunHasCause, IsRunShown, IsBookOf, IsNotMaking};
+ghost use Rattle.mk_run.specs.Stages.{Answers, WritesAnswer, IsRunShown, IsBookOf, IsNotMaking};
 ghost use Rattle.mk_run.specs.Words.{NamesProject};
 
 use crate::fault::RunFault;
@@ -88,7 +87,7 @@ fn answer<F: Folder>(
     requires making { (F.state folder.old).making ≡ false }
     ensures book { IsBookOf book.new result }
     ensures making { IsNotMaking (F.state folder.new) result }
-    ensures cause { RunHasCause (F.state folder.old) (F.state folder.new) result }
+    ensures cause { HasCause RunFault.Failed (F.state folder.old) (F.state folder.new) result }
     ensures shown { IsRunShown (F.state folder.new) result }
     ensures told { WhereTold (F.told folder.old) (F.told folder.new) (Answers project.now book.new result) }
 {
@@ -108,7 +107,7 @@ fn write_answer<F: Folder>(
     ensures found { (F.state folder.new).found ≡ (F.state folder.old).found }
     ensures given { (F.state folder.new).given ≡ (F.state folder.old).given }
     ensures making { OnOk result ((F.state folder.new).making ≡ false) }
-    ensures cause { WriteHasCause (F.state folder.old) (F.state folder.new) result }
+    ensures cause { HasCause WriteFault.Failed (F.state folder.old) (F.state folder.new) result }
     ensures told { WhereTold (F.told folder.old) (F.told folder.new) (WritesAnswer project.now list.now result) }
 {
     let name = file_name(alloc, project, ".mar")?;

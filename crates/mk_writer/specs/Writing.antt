@@ -1,8 +1,8 @@
 -- What the writing of a list of moves does to a folder.
-use Rattle.std.specs.Prelude.{◌≡◌, ℕ, ◌≤◌, List, ◌++◌, take, Result, Ok, Err, IsErrOf}
+use Rattle.std.specs.Prelude.{◌≡◌, ℕ, List, ◌++◌, take, Result, Ok, Err}
 use Rattle.mk_model.specs.Texts.{move_text}
 use Rattle.mk_move.specs.MoveLists.{TheList, vectors_of}
-use Rattle.mk_desk.specs.Folders.{Desk, State, Rose}
+use Rattle.mk_desk.specs.Folders.{Desk}
 use Rattle.mk_desk.specs.declared.folder.DeskFault.{DeskFault}
 use Rattle.mk_desk.specs.declared.folder.DeskFault.TheVariants as desk
 use Rattle.mk_writer.specs.declared.fault.WriteFault.{WriteFault}
@@ -12,11 +12,6 @@ use Rattle.mk_writer.specs.declared.fault.WriteFault.TheVariants.{Memory, Failed
 abbrev pub passed_on : DeskFault → WriteFault
 passed_on desk.Memory = Memory
 passed_on desk.Failed = Failed
-
--- A writing's count of faults doesn't fall, and `Failed` is answered only where it rose.
-pub record WriteHasCause (before after : State) (result : Result Unit WriteFault) : Type 0 where
-  pub later : before.faults ≤ after.faults
-  pub failed : IsErrOf result Failed → Rose before.faults after.faults
 
 -- the text of a list of moves
 abbrev pub text_of : TheList → List ℕ

@@ -3,7 +3,7 @@
 ghost use Rattle.std.specs.Prelude.{◌≡◌, ◌+◌, ◌*◌, ◌≤◌, true, vec_capacity};
 ghost use Rattle.mk_desk.specs.Folders.{HasCause, WhereTold};
 ghost use Rattle.mk_desk.specs.Transfers.{PutsAll};
-ghost use Rattle.mk_writer.specs.Writing.{WriteHasCause, WritesMoves, text_of};
+ghost use Rattle.mk_writer.specs.Writing.{WritesMoves, text_of};
 
 use crate::fault::WriteFault;
 use crate::line::{ENTRY_ROOM, HEADER_ROOM, set_header, set_move};
@@ -25,7 +25,7 @@ pub fn write_moves<F: Folder, L: MoveList>(
     ensures making { (F.state folder.new).making ≡ true }
     ensures found { (F.state folder.new).found ≡ (F.state folder.old).found }
     ensures given { (F.state folder.new).given ≡ (F.state folder.old).given }
-    ensures cause { WriteHasCause (F.state folder.old) (F.state folder.new) result }
+    ensures cause { HasCause WriteFault.Failed (F.state folder.old) (F.state folder.new) result }
     ensures told { WhereTold (F.told folder.old) (F.told folder.new) (WritesMoves (L.list list.now) result) }
 {
     let columns = list.columns() as usize;
@@ -45,7 +45,7 @@ fn write_lines<F: Folder, L: MoveList>(
     ensures making { (F.state folder.new).making ≡ true }
     ensures found { (F.state folder.new).found ≡ (F.state folder.old).found }
     ensures given { (F.state folder.new).given ≡ (F.state folder.old).given }
-    ensures cause { HasCause (F.state folder.old) (F.state folder.new) result }
+    ensures cause { HasCause DeskFault.Failed (F.state folder.old) (F.state folder.new) result }
     ensures told { WhereTold (F.told folder.old) (F.told folder.new) (PutsAll (text_of (L.list list.now)) result) }
 {
     set_header(line, list.len(), list.columns());

@@ -1,4 +1,4 @@
-use Rattle.std.proofs.Common.{◌≡◌, ◌+◌, pos, get_or, arith, rules, refl, sym, ◌∙◌, ap, subst, ◌<ℤ◌, ℤ}
+use Rattle.std.proofs.Common.{◌≡◌, ◌+◌, pos, get_or, arith, rules, refl, sym, ◌∙◌, ap, subst, ◌<ℤ◌}
 use mir.Syntax.{w64}
 use mir.Val.{to_z, of_z, SFits}
 use borrow.Author.Differences.{up}

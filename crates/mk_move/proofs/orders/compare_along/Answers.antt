@@ -1,7 +1,6 @@
-use Rattle.std.proofs.Common.{◌≡◌, ◌<◌, ℕ, length, take, pos, get_or, arith, subst, All, ◌∙◌, sym}
+use Rattle.std.proofs.Common.{◌≡◌, ◌<◌, length, pos, get_or, arith, subst, All, ◌∙◌, sym}
 use mir.Syntax.{w64}
 use mir.Val.{to_z, of_z}
-use Rattle.std.specs.Int.{int_max}
 use Rattle.std.proofs.lemmas.Int.{ints}
 use Rattle.std.proofs.lemmas.List.{take_all}
 use Rattle.std.proofs.lemmas.List.Elements.{All-more}

@@ -1,6 +1,5 @@
-use Rattle.std.proofs.Common.{◌≡◌, arith, ap, ◌∙◌, sym, subst, length, All}
-use Rattle.std.specs.Ordering.{MatchOrdering}
-use Rattle.mk_model.specs.Vectors.{positive_part, entry}
+use Rattle.std.proofs.Common.{◌≡◌, ◌∙◌}
+use Rattle.mk_model.specs.Vectors.{positive_part}
 use Rattle.mk_model.specs.Orders.{IsBelow}
 use Rattle.mk_model.proofs.VectorAlgebra.{length-positive_part}
 use Rattle.mk_move.proofs.Comparisons.{IsComparison, compared}

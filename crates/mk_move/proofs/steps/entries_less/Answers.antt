@@ -1,7 +1,7 @@
-use Rattle.std.proofs.Common.{◌≡◌, ◌+◌, ◌<◌, ◌∷◌, ◌++◌, [], List, ℤ, pos, length, arith, sym, ap, subst, ◌∙◌, ◌-ℤ◌, ◌*ℤ◌}
+use Rattle.std.proofs.Common.{◌≡◌, ◌+◌, ◌∷◌, ◌++◌, [], ℤ, pos, arith, sym, ap, subst, ◌∙◌, ◌-ℤ◌, ◌*ℤ◌}
 use mir.Syntax.{w64}
 use mir.Val.{to_z, of_z}
-use Rattle.mk_model.specs.Vectors.{entry, IsEntry}
+use Rattle.mk_model.specs.Vectors.{entry}
 use Rattle.mk_model.specs.Overflows.{IsBeyond}
 use Rattle.mk_move.specs.Steps.{GivesEntry}
 use Rattle.mk_move.proofs.Readings.{entry_read, wide_read, less_read}

@@ -1,4 +1,4 @@
-use Rattle.std.proofs.Common.{◌≡◌, pos, neg_ℤ, ◌-ℤ◌, ◌*ℤ◌, ◌≤ℤ◌, ◌<ℤ◌, arith, ap, sym, subst, ◌∙◌, inl, inr}
+use Rattle.std.proofs.Common.{◌≡◌, ◌-ℤ◌, ◌*ℤ◌, arith, ap, sym, subst, ◌∙◌, inl, inr}
 use mir.Syntax.{w64, w128}
 use mir.Val.{to_z, of_z, SFits}
 use Rattle.std.proofs.lemmas.Int.{ints, fits_signed_from_abs}

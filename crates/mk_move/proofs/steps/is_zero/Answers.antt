@@ -1,7 +1,6 @@
-use Rattle.std.proofs.Common.{◌≡◌, pos, get_or, arith, rules, ap, ◌∙◌, sym, length}
-use Rattle.std.proofs.lemmas.Int.{ints}
-use Rattle.std.proofs.lemmas.List.{ext_get_or, get_or-replicate, length-replicate}
-use Rattle.mk_model.specs.Vectors.{entry, zeros}
+use Rattle.std.proofs.Common.{◌≡◌, pos, arith, rules, ◌∙◌, sym, length}
+use Rattle.std.proofs.lemmas.List.{ext_get_or, length-replicate}
+use Rattle.mk_model.specs.Vectors.{zeros}
 use Rattle.mk_model.proofs.VectorAlgebra.{entry-zeros}
 use Rattle.mk_move.proofs.steps.is_zero.Goals as goal
 

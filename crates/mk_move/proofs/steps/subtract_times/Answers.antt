@@ -1,10 +1,9 @@
-use Rattle.std.proofs.Common.{◌≡◌, pos, length, arith, rules, sym, ap, subst, ◌∙◌, ℤ, IsTrue, false}
+use Rattle.std.proofs.Common.{◌≡◌, length, arith, rules, sym, ap, subst, ◌∙◌, ℤ, IsTrue, false}
 use mir.Syntax.{w128}
-use mir.Val.{to_z, of_z, SFits}
+use mir.Val.{SFits}
 use Rattle.std.proofs.lemmas.Int.{to_z-of_z}
 use Rattle.mk_model.specs.Vectors.{zeros, weight, positive_part}
-use Rattle.mk_model.proofs.VectorAlgebra.{lengths}
-use Rattle.mk_move.specs.Steps.{GivesEntries, minus_times}
+use Rattle.mk_move.specs.Steps.{GivesEntries}
 use Rattle.mk_move.proofs.Readings.{entry_read}
 use Rattle.mk_move.proofs.Differences.{length-given, weight-minus_times}
 use Rattle.mk_move.proofs.steps.subtract_times.Goals as goal

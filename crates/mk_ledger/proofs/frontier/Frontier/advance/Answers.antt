@@ -1,4 +1,4 @@
-use Rattle.std.proofs.Common.{◌≡◌, ◌+◌, arith, ap, ◌∙◌}
+use Rattle.std.proofs.Common.{◌+◌, arith, ap, ◌∙◌}
 use Rattle.mk_ledger.proofs.PairNumbers.{number_next_row}
 use Rattle.mk_ledger.proofs.frontier.Frontier.advance.Goals as goal
 

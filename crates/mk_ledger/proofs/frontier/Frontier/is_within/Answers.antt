@@ -1,6 +1,6 @@
-use Rattle.std.proofs.Common.{◌≡◌, ◌<◌, arith, ap, ◌∙◌, subst, sym}
+use Rattle.std.proofs.Common.{◌<◌, arith, subst, sym}
 use Rattle.std.proofs.lemmas.Bool.Decides.{nat_tests}
-use Rattle.mk_ledger.specs.PairFlags.{pairs_of, pair_number}
+use Rattle.mk_ledger.specs.PairFlags.{pairs_of}
 use Rattle.mk_ledger.proofs.PairNumbers.{number_below, within_by_number}
 use Rattle.mk_ledger.proofs.frontier.Frontier.is_within.Goals as goal
 

@@ -1,6 +1,6 @@
 use Rattle.std.proofs.Common.{◌≡◌, ◌-◌, ◌++◌, ◌∷◌, List, ℕ, arith, ap, ◌∙◌, sym, subst, append-nil}
 use Rattle.mk_move.specs.Priorities.{IsPriority, others}
-use Rattle.mk_move.proofs.FirstLists.{first_priority, others_next, others_skip}
+use Rattle.mk_move.proofs.FirstLists.{first_priority, others_next}
 use Rattle.mk_move.proofs.priority.Priority.first.Goals as goal
 
 pub loop-end-preserved-in-Continue-branch-2 : goal.loop-end-preserved-in-Continue-branch-2

@@ -1,4 +1,4 @@
-use Rattle.std.proofs.Common.{◌≡◌, ◌≤◌, ◌∷◌, ◌++◌}
+use Rattle.std.proofs.Common.{◌≡◌, ◌∷◌, ◌++◌}
 use Rattle.mk_move.specs.Priorities.{others}
 use Rattle.mk_move.proofs.priority.Priority.first.Given as goal
 

@@ -6,7 +6,7 @@ use Rattle.mk_move.specs.MoveLists.{vectors_of}
 use Rattle.mk_reduce.specs.Stops.{IsStepRefused}
 use Rattle.mk_core.specs.Remainders.{IsRemainder, IsWorkFault}
 use Rattle.mk_core.proofs.Remainders.{remainder_left, difference_fault, step_fault}
-use Rattle.mk_core.proofs.completion.work_on.Goals as goal
+use Rattle.mk_core.proofs.work.work_on.Goals as goal
 
 pub critical-requires : goal.critical-requires
 critical-requires c = record {

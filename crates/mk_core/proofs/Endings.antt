@@ -3,16 +3,16 @@ use Rattle.std.proofs.Common.{◌≡◌, ℕ, suc, ◌<◌, List, [], ◌∷◌,
 use Rattle.std.proofs.lemmas.Option.{none-some}
 use Rattle.mk_model.specs.CoreStates.{Pair, CoreState}
 use Rattle.mk_model.specs.Legal.{claims_held, IsEnded}
-use Rattle.mk_ledger.specs.Claims.{IsGiven, IsOverBudget, IsNotYet}
-use Rattle.mk_ledger.specs.Ledgers.{TheLedger, IsLedger}
+use Rattle.mk_ledger.specs.Claims.{IsGiven, ClaimIsOverBudget, IsNotYet}
+use Rattle.mk_ledger.specs.Ledgers.{LedgerView, IsLedger}
 use Rattle.mk_core.specs.declared.completion.Ending.TheVariants.{Ended, OverBudget, Halted}
 use Rattle.mk_core.specs.GoingOn.{NoneClaims, IsPairGiven, EndsBy}
 use Rattle.mk_core.proofs.GoingOn.{claim_goes_on, first_claims}
 
-pub workers_within : (ledger : TheLedger) → IsLedger ledger → 0 < ledger.state.workers
+pub workers_within : (ledger : LedgerView) → IsLedger ledger → 0 < ledger.state.workers
 workers_within ledger kept = omega (arith, kept.some)
 
-pub pair_given : (ledger after : TheLedger) (pair : Pair) → IsLedger ledger → NoneClaims ledger.state → IsGiven ledger.state 0 pair after.state → after.basis ≡ ledger.basis → IsPairGiven ledger after pair
+pub pair_given : (ledger after : LedgerView) (pair : Pair) → IsLedger ledger → NoneClaims ledger.state → IsGiven ledger.state 0 pair after.state → after.basis ≡ ledger.basis → IsPairGiven ledger after pair
 pair_given ledger after pair kept none h e = record {
   goes_on = claim_goes_on ledger after 0 h.claim e;
   basis = e;
@@ -27,7 +27,7 @@ none_held [] none = refl
 none_held (None ∷ claims) none = none_held claims (λ worker. none (suc worker))
 none_held (Some pair ∷ claims) none = absurd (none-some pair (sym (none 0)))
 
-pub ends_over_budget : (ledger after : TheLedger) (made : ℕ) → IsLedger ledger → NoneClaims ledger.state → ledger.state.first_halted ≡ None → IsOverBudget ledger.state made → after.state ≡ ledger.state → EndsBy after.state OverBudget
+pub ends_over_budget : (ledger after : LedgerView) (made : ℕ) → IsLedger ledger → NoneClaims ledger.state → ledger.state.first_halted ≡ None → ClaimIsOverBudget ledger.state made → after.state ≡ ledger.state → EndsBy after.state OverBudget
 ends_over_budget ledger after made kept none no_halt h e = subst (λ state. EndsBy state OverBudget) (sym e) (no_halt, used_up, (h.pair, h.free))
   where
     used_up : length ledger.state.journal ≡ ledger.state.budget
@@ -43,5 +43,5 @@ ends_halted state after worker h e = λ f. none-some worker (sym f ∙ ap (λ s.
 pub never_waits : (state : CoreState) (holder : ℕ) (pair : Pair) → NoneClaims state → IsNotYet state holder pair → ⊥
 never_waits state holder pair none h = none-some pair (sym (none holder) ∙ h.held)
 
-pub same_ledger : (ledger after : TheLedger) → after.state ≡ ledger.state → after.basis ≡ ledger.basis → after ≡ ledger
+pub same_ledger : (ledger after : LedgerView) → after.state ≡ ledger.state → after.basis ≡ ledger.basis → after ≡ ledger
 same_ledger ledger after e f = ap (λ s. record { basis = after.basis; state = s }) e ∙ ap (λ b. record { basis = b; state = ledger.state }) f

@@ -4,14 +4,14 @@ use Rattle.std.proofs.lemmas.Option.{none-some, same_Some}
 use Rattle.std.proofs.lemmas.List.{append-nil, length-map}
 use Rattle.mk_model.specs.CoreStates.{Pair, pair_of, Halt, CoreState, phase_state, start_of, halt_of, IsPairOf, IsSettled, IsFree}
 use Rattle.mk_model.specs.Events.{HasNormalReduct}
-use Rattle.mk_model.specs.Legal.{IsLegal, IsEnded, IsKept}
+use Rattle.mk_model.specs.Legal.{IsLegal, IsEnded, IsHaltKept}
 use Rattle.mk_model.specs.Overflows.{IsGenuineOverflow}
 use Rattle.mk_model.proofs.LegalEvents.{phase_is_legal}
-use Rattle.mk_move.specs.MoveLists.{TheBasis, IsBasis, vectors_of}
+use Rattle.mk_move.specs.MoveLists.{BasisView, IsBasis, vectors_of}
 use Rattle.mk_ledger.specs.Entries.{settle_of, settles_of}
 use Rattle.mk_ledger.specs.Halts.{stop_of, halt_as}
 use Rattle.mk_ledger.specs.FirstHalts.{IsFirstHalt}
-use Rattle.mk_ledger.specs.Ledgers.{TheLedger}
+use Rattle.mk_ledger.specs.Ledgers.{LedgerView}
 use Rattle.mk_ledger.specs.declared.halt.OverflowStop.{OverflowStop}
 use Rattle.mk_ledger.specs.declared.halt.Halt.{Halt as KeptHalt}
 use Rattle.mk_ledger.specs.declared.halt.Halt.TheVariants as kept
@@ -19,11 +19,11 @@ use Rattle.mk_core.specs.declared.phase.Phase.{Phase}
 use Rattle.mk_core.specs.declared.phase.Stopped.{Stopped}
 use Rattle.mk_core.specs.declared.phase.Stopped.TheVariants.{Memory, Overflow, OverBudget, BasisFull}
 use Rattle.mk_core.specs.declared.completion.Ending.TheVariants as ending
-use Rattle.mk_core.specs.GoingOn.{GoesOn, EndsBy, IsPhaseOf}
+use Rattle.mk_core.specs.GoingOn.{ContinuesLedger, EndsBy, IsPhaseOfLedger}
 use Rattle.mk_core.specs.Phases.{state_of, IsPhaseFrom, IsLeft, Finishes, HandsOn, IsCompleted}
 use Rattle.mk_core.proofs.Limits.{legal_raised}
 
-module _ (ledger : TheLedger) (phase : Phase) (same : IsPhaseOf ledger phase) where
+module _ (ledger : LedgerView) (phase : Phase) (same : IsPhaseOfLedger ledger phase) where
   vectors : vectors_of phase.basis.moves ≡ ledger.state.basis
   vectors = ap (λ b. vectors_of b.moves) same.basis ∙ sym same.kept.moves
 
@@ -78,7 +78,7 @@ module _ (ledger : TheLedger) (phase : Phase) (same : IsPhaseOf ledger phase) wh
   pub completed : IsEnded ledger.state → IsCompleted phase
   completed ended = record {
     basis = subst IsBasis (sym same.basis) same.kept.basis;
-    legal = subst (λ (b : TheBasis). IsLegal (length b.grading) b.priority (state_of phase (length phase.journal) 65536)) (sym same.basis) completed_legal;
+    legal = subst (λ (b : BasisView). IsLegal (length b.grading) b.priority (state_of phase (length phase.journal) 65536)) (sym same.basis) completed_legal;
     ended = phase_ended (length phase.journal) 65536 ended;
   }
 
@@ -94,7 +94,7 @@ module _ (ledger : TheLedger) (phase : Phase) (same : IsPhaseOf ledger phase) wh
       (phase_from, record { used_up = sym as_many ∙ used_up; no_halt = no_halt; pair = pair; left = left pair free })
 
   -- ---- a halt stands
-  kept_halt : (halt : KeptHalt) → IsFirstHalt ledger.state (Some halt) → IsKept ledger.state (halt_as halt)
+  kept_halt : (halt : KeptHalt) → IsFirstHalt ledger.state (Some halt) → IsHaltKept ledger.state (halt_as halt)
   kept_halt halt (worker, e, f) = same.kept.legal.halts_kept worker (halt_as halt) f
 
   pub finishes_overflow : (stop : OverflowStop) → IsFirstHalt ledger.state (Some (kept.Overflow stop)) → Finishes ledger (Err (Overflow phase stop))
@@ -130,7 +130,7 @@ full_handed_on state phase i j h worker halt e f =
     subst (λ (other : Halt). HandsOn other (Err (BasisFull phase i j))) (sym (first_is state (kept.Full i j) worker halt h e f)) refl
 
 -- ---- what a later ledger finishes with, an earlier one does
-module _ (before after : TheLedger) (g : GoesOn before after) where
+module _ (before after : LedgerView) (g : ContinuesLedger before after) where
   earlier_from : (phase : Phase) → IsPhaseFrom after phase → IsPhaseFrom before phase
   earlier_from phase h = record {
     basis = h.basis;

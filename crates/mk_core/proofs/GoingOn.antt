@@ -7,10 +7,10 @@ use Rattle.mk_model.specs.CoreStates.{Pair, Way, settle, Halt, CoreState, claim_
 use Rattle.mk_model.specs.Events.{IsClaim, IsSettling, IsHalting, first_of, with_claim}
 use Rattle.mk_model.proofs.Journals.{Grows, moves_grow}
 use Rattle.mk_model.proofs.LegalEvents.{cleared_here}
-use Rattle.mk_ledger.specs.Ledgers.{TheLedger}
-use Rattle.mk_core.specs.GoingOn.{GoesOn, NoneClaims, FirstClaims, IsPairGiven}
+use Rattle.mk_ledger.specs.Ledgers.{LedgerView}
+use Rattle.mk_core.specs.GoingOn.{ContinuesLedger, NoneClaims, FirstClaims, IsPairGiven}
 
-pub GoesOn-here : (ledger : TheLedger) → GoesOn ledger ledger
+pub GoesOn-here : (ledger : LedgerView) → ContinuesLedger ledger ledger
 GoesOn-here ledger = record {
   priority = refl;
   grading = refl;
@@ -25,7 +25,7 @@ GoesOn-here ledger = record {
   first_stays = λ worker halt e f. (e, f);
 }
 
-pub GoesOn-then : (before middle after : TheLedger) → GoesOn before middle → GoesOn middle after → GoesOn before after
+pub GoesOn-then : (before middle after : LedgerView) → ContinuesLedger before middle → ContinuesLedger middle after → ContinuesLedger before after
 GoesOn-then before middle after g h = record {
   priority = h.priority ∙ g.priority;
   grading = h.grading ∙ g.grading;
@@ -41,9 +41,9 @@ GoesOn-then before middle after g h = record {
 }
 
 -- ---- each event of a ledger
-module _ (ledger after : TheLedger) where
+module _ (ledger after : LedgerView) where
   -- a claim leaves all but the claims as they were
-  pub claim_goes_on : (worker : ℕ) → IsClaim ledger.state worker after.state → after.basis ≡ ledger.basis → GoesOn ledger after
+  pub claim_goes_on : (worker : ℕ) → IsClaim ledger.state worker after.state → after.basis ≡ ledger.basis → ContinuesLedger ledger after
   claim_goes_on worker h e = record {
     priority = ap (λ b. b.priority) e;
     grading = ap (λ b. b.grading) e;
@@ -59,7 +59,7 @@ module _ (ledger after : TheLedger) where
   }
 
   pub settling_goes_on : (n : ℕ) (priority : List ℕ) (worker : ℕ) (way : Way) → ledger.state.start_length ≤ length ledger.state.basis → IsSettling n priority ledger.state worker way after.state →
-      after.basis.priority ≡ ledger.basis.priority → after.basis.grading ≡ ledger.basis.grading → GoesOn ledger after
+      after.basis.priority ≡ ledger.basis.priority → after.basis.grading ≡ ledger.basis.grading → ContinuesLedger ledger after
   settling_goes_on n priority worker way within h p w = record {
     priority = p;
     grading = w;
@@ -81,7 +81,7 @@ module _ (ledger after : TheLedger) where
       same_start =
           ap (take ledger.state.start_length) grows.longer ∙ take-append-le ledger.state.start_length ledger.state.basis grows.more within
 
-  pub halting_goes_on : (worker : ℕ) (halt : Halt) → IsHalting ledger.state worker halt after.state → after.basis ≡ ledger.basis → GoesOn ledger after
+  pub halting_goes_on : (worker : ℕ) (halt : Halt) → IsHalting ledger.state worker halt after.state → after.basis ≡ ledger.basis → ContinuesLedger ledger after
   halting_goes_on worker halt h e = record {
     priority = ap (λ b. b.priority) e;
     grading = ap (λ b. b.grading) e;
@@ -120,7 +120,7 @@ none_claims state after pair h e worker = ap (λ claims. get_or claims worker No
     cleared (inr d) = get_or-set_other state.claims 0 worker None None d ∙ h.others worker d
 
 -- ---- the measure: how many claims the budget has left
-pub fewer_left : (ledger given after : TheLedger) (pair : Pair) → IsPairGiven ledger given pair → GoesOn given after → after.state.budget - after.state.claims_made < ledger.state.budget - ledger.state.claims_made
+pub fewer_left : (ledger given after : LedgerView) (pair : Pair) → IsPairGiven ledger given pair → ContinuesLedger given after → after.state.budget - after.state.claims_made < ledger.state.budget - ledger.state.claims_made
 fewer_left ledger given after pair g h = omega (arith, g.made, g.within_budget, g.goes_on.budget, h.budget, h.made)
 
 -- no worker has one where a completion begins

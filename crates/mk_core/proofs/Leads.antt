@@ -6,7 +6,7 @@ use Rattle.std.proofs.lemmas.Option.{get_or_from_slice_get, slice_get_within}
 use Rattle.mk_model.specs.Orders.{lead}
 use Rattle.mk_model.proofs.VectorAlgebra.{length-positive_part}
 use Rattle.mk_move.specs.Moves.{Weighed}
-use Rattle.mk_move.specs.MoveLists.{TheBasis, BelongsTo, IsBasis}
+use Rattle.mk_move.specs.MoveLists.{BasisView, BelongsTo, IsBasis}
 use Rattle.mk_reduce.specs.Leads.{leads_of}
 
 -- one move more
@@ -24,7 +24,7 @@ leads_columns p w moves m all h =
     All-map (λ (lead : List ℤ). length lead ≡ length m.entries) (λ (m : Weighed). lead m.entries) moves
     (All-weaker (BelongsTo p w) (λ (x : Weighed). length (lead x.entries) ≡ length m.entries) (λ x b. length-positive_part x.entries ∙ b.columns ∙ sym h.columns) moves all)
 
-pub first_leads_columns : (basis : TheBasis) (place : ℕ) (m : Weighed) → IsBasis basis → BelongsTo basis.priority basis.grading m →
+pub first_leads_columns : (basis : BasisView) (place : ℕ) (m : Weighed) → IsBasis basis → BelongsTo basis.priority basis.grading m →
     All (λ lead. length lead ≡ length m.entries) (leads_of (take place basis.moves))
 first_leads_columns basis place m kept h =
     leads_columns basis.priority basis.grading (take place basis.moves) m (All-take (BelongsTo basis.priority basis.grading) place basis.moves kept.moves) h

@@ -13,7 +13,7 @@ use Rattle.mk_model.specs.Reductions.{Divides}
 use Rattle.mk_model.specs.Saturation.{has_divisor, needed, drop_redundant}
 use Rattle.mk_model.proofs.Divisors.{Decides-divides, Divides-itself}
 use Rattle.mk_move.specs.Moves.{Weighed}
-use Rattle.mk_move.specs.MoveLists.{TheBasis, vectors_of}
+use Rattle.mk_move.specs.MoveLists.{BasisView, vectors_of}
 use Rattle.mk_reduce.proofs.Beginnings.{vector_at, length-vectors_of}
 use Rattle.mk_core.specs.Redundancy.{is_redundant_at, makes_redundant}
 
@@ -148,13 +148,13 @@ module _ (moves : List (List ℤ)) (place : ℕ) (l : place < length moves) wher
 
 -- The moves that are kept of those before a place are needed, and with the moves that are needed from there on are all that
 -- are. They have the list and the grading of the basis.
-pub record IsKeptUpTo (basis : TheBasis) (place : ℕ) (kept : TheBasis) : Type 0 where
+pub record IsKeptUpTo (basis : BasisView) (place : ℕ) (kept : BasisView) : Type 0 where
   pub priority : kept.priority ≡ basis.priority
   pub grading : kept.grading ≡ basis.grading
   pub few : length kept.moves ≤ place
   pub needed : vectors_of kept.moves ++ needed (take place (vectors_of basis.moves)) (drop place (vectors_of basis.moves)) ≡ drop_redundant (vectors_of basis.moves)
 
-module _ (basis : TheBasis) (place : ℕ) (kept : TheBasis) (so_far : IsKeptUpTo basis place kept) where
+module _ (basis : BasisView) (place : ℕ) (kept : BasisView) (so_far : IsKeptUpTo basis place kept) where
   abbrev moves : List (List ℤ)
   moves = vectors_of basis.moves
 
@@ -171,7 +171,7 @@ module _ (basis : TheBasis) (place : ℕ) (kept : TheBasis) (so_far : IsKeptUpTo
   }
 
   -- it is needed, and put at the end
-  pub kept_more : (m : Weighed) (after : TheBasis) → slice_get basis.moves place ≡ Some m → is_redundant_at (vectors_of basis.moves) place ≡ false → after ≡ record kept { moves = kept.moves ++ m ∷ [] } → IsKeptUpTo basis (place + 1) after
+  pub kept_more : (m : Weighed) (after : BasisView) → slice_get basis.moves place ≡ Some m → is_redundant_at (vectors_of basis.moves) place ≡ false → after ≡ record kept { moves = kept.moves ++ m ∷ [] } → IsKeptUpTo basis (place + 1) after
   kept_more m after at e f = subst (IsKeptUpTo basis (place + 1)) (sym f) (record {
     priority = so_far.priority;
     grading = so_far.grading;

@@ -4,14 +4,14 @@ use Rattle.mk_model.specs.CoreStates.{Pair, difference}
 use Rattle.mk_model.specs.Overflows.{IsGenuineOverflow}
 use Rattle.mk_model.specs.Reductions.{Reduct}
 use Rattle.mk_move.specs.Moves.{Weighed}
-use Rattle.mk_move.specs.MoveLists.{TheBasis, vector_of, vectors_of}
+use Rattle.mk_move.specs.MoveLists.{BasisView, vector_of, vectors_of}
 use Rattle.mk_reduce.specs.Stops.{overflow_of, IsDifferenceRefused, IsStepRefused}
 use Rattle.mk_reduce.specs.Works.{TheWork, WorkOf, IsRest, rest_of, IsReduced}
 use Rattle.mk_reduce.specs.declared.stop.Stop.{Stop}
 use Rattle.mk_reduce.specs.declared.stop.Stop.TheVariants.{Memory, Overflow}
 use Rattle.mk_core.specs.Remainders.{IsRemainder, IsWorkFault, fault_for}
 
-module _ (basis : TheBasis) (pair : Pair) where
+module _ (basis : BasisView) (pair : Pair) where
   left_is : (rest : Option Weighed) → Reduct (vectors_of basis.moves) (difference (vectors_of basis.moves) pair) (rest_of (length basis.grading) rest) → IfSome rest (IsRest basis.grading) →
       IsReduced (vectors_of basis.moves) rest → IsRemainder basis pair rest
   left_is None reduct rest normal = reduct

@@ -6,16 +6,16 @@ use Rattle.mk_model.specs.Vectors.{zeros, negate}
 use Rattle.mk_model.specs.CoreStates.{Pair, Way, OverflowStop, Halt, halt_of, difference, IsPairOf}
 use Rattle.mk_model.specs.CoreStates.Way.{Place}
 use Rattle.mk_model.specs.CoreStates.Halt.{Overflow, Full}
-use Rattle.mk_model.specs.Events.{IsSettling, IsHalting, IsCause}
+use Rattle.mk_model.specs.Events.{IsSettling, IsHalting, IsHaltCause}
 use Rattle.mk_model.specs.Overflows.{IsGenuineOverflow}
 use Rattle.mk_model.specs.Reductions.{Reduct, IsNormal}
 use Rattle.mk_model.specs.Orders.{lead}
 use Rattle.mk_model.proofs.VectorAlgebra.{length-negate}
 use Rattle.mk_move.specs.Moves.{Weighed, IsGraded, IsRowOriented}
-use Rattle.mk_move.specs.MoveLists.{TheBasis, BelongsTo, IsBasis, vectors_of}
+use Rattle.mk_move.specs.MoveLists.{BasisView, BelongsTo, IsBasis, vectors_of}
 use Rattle.mk_reduce.specs.Leads.{leads_of}
 use Rattle.mk_reduce.specs.Works.{IsRest}
-use Rattle.mk_ledger.specs.Ledgers.{TheLedger, IsLedger}
+use Rattle.mk_ledger.specs.Ledgers.{LedgerView, IsLedger}
 use Rattle.mk_ledger.specs.Settlings.{IsZeroClaim, IsReductOfClaim, IsPlacing}
 use Rattle.mk_ledger.specs.declared.settles.PlaceFault.TheVariants.{BasisFull}
 use Rattle.mk_core.specs.GoingOn.{FirstClaims, GoesOnUnclaimed}
@@ -32,7 +32,7 @@ belongs_oriented p w before after l rest h graded = record { columns = same h.ei
     same (inl e) = ap length e
     same (inr e) = ap length e ∙ length-negate before.entries
 
-module _ (ledger : TheLedger) (kept : IsLedger ledger) where
+module _ (ledger : LedgerView) (kept : IsLedger ledger) where
   as_many : length ledger.state.basis ≡ length ledger.basis.moves
   as_many = ap length kept.moves ∙ length-map ledger.basis.moves (λ m. m.entries)
 
@@ -63,7 +63,7 @@ module _ (ledger : TheLedger) (kept : IsLedger ledger) where
   pub claimed_pair : (pair : Pair) → FirstClaims ledger.state pair → IsPairOf (vectors_of ledger.basis.moves) pair
   claimed_pair pair claims = subst (λ moves. IsPairOf moves pair) kept.moves ((kept.legal.claims_unsettled 0 pair claims.claimed).0)
 
-  pub overflow_cause : (stop : OverflowStop) (pair : Pair) → FirstClaims ledger.state pair → stop.pair ≡ pair → IsGenuineOverflow (vectors_of ledger.basis.moves) stop → IsCause ledger.state 0 (Overflow stop)
+  pub overflow_cause : (stop : OverflowStop) (pair : Pair) → FirstClaims ledger.state pair → stop.pair ≡ pair → IsGenuineOverflow (vectors_of ledger.basis.moves) stop → IsHaltCause ledger.state 0 (Overflow stop)
   overflow_cause stop pair claims e genuine =
       (claims.claimed ∙ ap Some (sym e), subst (λ moves. IsGenuineOverflow moves stop) (sym kept.moves) genuine)
 
@@ -75,7 +75,7 @@ module _ (ledger : TheLedger) (kept : IsLedger ledger) where
       go (Some halt) e = absurd (none-some pair (sym (kept.legal.halted_without_claim 0 halt e) ∙ claims.claimed))
 
   -- ---- what is then
-  module _ (after : TheLedger) (pair : Pair) (claims : FirstClaims ledger.state pair) where
+  module _ (after : LedgerView) (pair : Pair) (claims : FirstClaims ledger.state pair) where
     pub settling_unclaimed : (n : ℕ) (priority : List ℕ) (way : Way) → IsSettling n priority ledger.state 0 way after.state → after.basis.priority ≡ ledger.basis.priority → after.basis.grading ≡ ledger.basis.grading → GoesOnUnclaimed ledger after
     settling_unclaimed n priority way h p w = record {
       goes_on = settling_goes_on ledger after n priority 0 way kept.legal.start_within h p w;
@@ -98,7 +98,7 @@ module _ (ledger : TheLedger) (kept : IsLedger ledger) where
     full_unclaimed front m (e, f, h, b) = halting_unclaimed (Full h.pair) h.halting b
 
 -- ---- the finder's leads, where the move of a place is new
-module _ (basis after : TheBasis) (m : Weighed) (longer : after ≡ record basis { moves = basis.moves ++ m ∷ [] }) (kept : IsBasis after) where
+module _ (basis after : BasisView) (m : Weighed) (longer : after ≡ record basis { moves = basis.moves ++ m ∷ [] }) (kept : IsBasis after) where
   earlier : take (length basis.moves) after.moves ≡ basis.moves
   earlier = ap (λ b. take (length basis.moves) b.moves) longer ∙ take_at basis.moves (m ∷ []) (length basis.moves) refl
 

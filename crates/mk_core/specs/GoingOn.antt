@@ -3,14 +3,14 @@ use Rattle.std.specs.Prelude.{◌≡◌, ◌≢◌, ℕ, ◌≤◌, ◌<◌, Lis
 use Rattle.mk_model.specs.CoreStates.{Pair, Settle, Halt, CoreState, claim_of, halt_of, start_of, IsFree}
 use Rattle.mk_model.specs.Legal.{IsEnded}
 use Rattle.mk_ledger.specs.Entries.{settles_of}
-use Rattle.mk_ledger.specs.Ledgers.{TheLedger, IsLedger}
+use Rattle.mk_ledger.specs.Ledgers.{LedgerView, IsLedger}
 use Rattle.mk_core.specs.declared.phase.Phase.{Phase}
 use Rattle.mk_core.specs.declared.completion.Ending.{Ending}
 use Rattle.mk_core.specs.declared.completion.Ending.TheVariants.{Ended, OverBudget, Halted}
 
 -- The later ledger has the same list, grading, start, budget and limit, and no fewer claims were made; its journal begins
 -- with the earlier one's; and the first halt stays.
-pub record GoesOn (before after : TheLedger) : Type 0 where
+pub record ContinuesLedger (before after : LedgerView) : Type 0 where
   pub priority : after.basis.priority ≡ before.basis.priority
   pub grading : after.basis.grading ≡ before.basis.grading
   pub start_length : after.state.start_length ≡ before.state.start_length
@@ -34,13 +34,13 @@ pub record FirstClaims (state : CoreState) (pair : Pair) : Type 0 where
   pub others : (worker : ℕ) → ¬ (worker ≡ 0) → claim_of state worker ≡ None
 
 -- it goes on, and no worker has a claim
-pub record GoesOnUnclaimed (before after : TheLedger) : Type 0 where
-  pub goes_on : GoesOn before after
+pub record GoesOnUnclaimed (before after : LedgerView) : Type 0 where
+  pub goes_on : ContinuesLedger before after
   pub unclaimed : NoneClaims after.state
 
 -- The first worker is given a pair, where no worker had one, and one claim more is made, within the budget.
-pub record IsPairGiven (before after : TheLedger) (pair : Pair) : Type 0 where
-  pub goes_on : GoesOn before after
+pub record IsPairGiven (before after : LedgerView) (pair : Pair) : Type 0 where
+  pub goes_on : ContinuesLedger before after
   pub basis : after.basis ≡ before.basis
   pub claims : FirstClaims after.state pair
   pub made : before.state.claims_made < after.state.claims_made
@@ -53,7 +53,7 @@ EndsBy state OverBudget = (state.first_halted ≡ None) × (length state.journal
 EndsBy state Halted = state.first_halted ≢ None
 
 -- the phase has what the ledger has
-pub record IsPhaseOf (ledger : TheLedger) (phase : Phase) : Type 0 where
+pub record IsPhaseOfLedger (ledger : LedgerView) (phase : Phase) : Type 0 where
   pub start_length : phase.start_len ≡ ledger.state.start_length
   pub basis : phase.basis ≡ ledger.basis
   pub journal : settles_of phase.journal ≡ ledger.state.journal

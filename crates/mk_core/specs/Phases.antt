@@ -9,14 +9,14 @@ use Rattle.mk_model.specs.Overflows.{IsGenuineOverflow}
 use Rattle.mk_move.specs.MoveLists.{IsBasis, vectors_of}
 use Rattle.mk_ledger.specs.Entries.{settles_of}
 use Rattle.mk_ledger.specs.Halts.{stop_of}
-use Rattle.mk_ledger.specs.Ledgers.{TheLedger}
+use Rattle.mk_ledger.specs.Ledgers.{LedgerView}
 use Rattle.mk_core.specs.declared.phase.Job.{Job}
 use Rattle.mk_core.specs.declared.phase.Phase.{Phase}
 use Rattle.mk_core.specs.declared.phase.Stopped.{Stopped}
 use Rattle.mk_core.specs.declared.phase.Stopped.TheVariants.{Memory, Overflow, OverBudget, BasisFull}
 
 -- the ledger that a job begins with, for one worker
-abbrev pub ledger_for : Job → TheLedger
+abbrev pub ledger_for : Job → LedgerView
 ledger_for job = record { basis = job.start; state = new_state (vectors_of job.start.moves) job.budget job.basis_limit 1 }
 
 -- a phase as a state without workers, read with a budget and a limit
@@ -25,7 +25,7 @@ state_of phase budget limit = phase_state phase.start_len (vectors_of phase.basi
 
 -- A phase that goes on from a ledger: it has the same list, grading and start, its journal begins with the ledger's, and
 -- replays legally within the ledger's budget and limit.
-pub record IsPhaseFrom (ledger : TheLedger) (phase : Phase) : Type 0 where
+pub record IsPhaseFrom (ledger : LedgerView) (phase : Phase) : Type 0 where
   pub basis : IsBasis phase.basis
   pub priority : phase.basis.priority ≡ ledger.basis.priority
   pub grading : phase.basis.grading ≡ ledger.basis.grading
@@ -41,7 +41,7 @@ pub record IsLeft (phase : Phase) (pair : Pair) : Type 0 where
   pub unsettled : ¬ (IsSettled (settles_of phase.journal) pair)
 
 -- as many pairs as the budget has are settled, no halt stood, and a pair is left
-pub record IsOverBudget (ledger : TheLedger) (phase : Phase) : Type 0 where
+pub record PhaseIsOverBudget (ledger : LedgerView) (phase : Phase) : Type 0 where
   pub used_up : length phase.journal ≡ ledger.state.budget
   pub no_halt : ledger.state.first_halted ≡ None
   pub pair : Pair
@@ -55,12 +55,12 @@ pub record IsBasisFull (limit : ℕ) (phase : Phase) (pair : Pair) : Type 0 wher
 
 -- What going on from a ledger gives: a phase in which every pair is settled, or why it stopped. No cause is given for want
 -- of memory.
-abbrev pub Finishes : TheLedger → Result Phase Stopped → Type 0
+abbrev pub Finishes : LedgerView → Result Phase Stopped → Type 0
 Finishes ledger (Ok phase) = IsPhaseFrom ledger phase × IsEnded (state_of phase ledger.state.budget ledger.state.limit)
 Finishes ledger (Err Memory) = Unit {0}
 Finishes ledger (Err (Overflow phase stop)) =
     IsPhaseFrom ledger phase × IsLeft phase (stop_of stop).pair × IsGenuineOverflow (vectors_of phase.basis.moves) (stop_of stop)
-Finishes ledger (Err (OverBudget phase)) = IsPhaseFrom ledger phase × IsOverBudget ledger phase
+Finishes ledger (Err (OverBudget phase)) = IsPhaseFrom ledger phase × PhaseIsOverBudget ledger phase
 Finishes ledger (Err (BasisFull phase i j)) = IsPhaseFrom ledger phase × IsBasisFull ledger.state.limit phase (pair_of i j)
 
 -- A halt that stands is the answer, unless there is no memory.

@@ -6,24 +6,24 @@ use Rattle.mk_model.specs.CoreStates.{Pair, difference}
 use Rattle.mk_model.specs.Overflows.{IsGenuineOverflow}
 use Rattle.mk_model.specs.Reductions.{Reduct, IsNormal}
 use Rattle.mk_move.specs.Moves.{Weighed}
-use Rattle.mk_move.specs.MoveLists.{TheBasis, vectors_of}
+use Rattle.mk_move.specs.MoveLists.{BasisView, vectors_of}
 use Rattle.mk_reduce.specs.Works.{IsRest}
 use Rattle.mk_reduce.specs.declared.stop.Stop.{Stop}
 use Rattle.mk_reduce.specs.declared.stop.Stop.TheVariants.{Memory as StopMemory, Overflow as StopOverflow}
 use Rattle.mk_ledger.specs.Halts.{stop_of}
-use Rattle.mk_ledger.specs.Ledgers.{TheLedger}
+use Rattle.mk_ledger.specs.Ledgers.{LedgerView}
 use Rattle.mk_core.specs.GoingOn.{FirstClaims}
 use Rattle.mk_core.specs.declared.work.WorkFault.{WorkFault}
 use Rattle.mk_core.specs.declared.work.WorkFault.TheVariants.{Memory, Overflow}
 
 -- a graded move that is a reduct of the pair's difference, and normal
-pub record IsNormalRest (basis : TheBasis) (pair : Pair) (m : Weighed) : Type 0 where
+pub record IsNormalRest (basis : BasisView) (pair : Pair) (m : Weighed) : Type 0 where
   pub reduct : Reduct (vectors_of basis.moves) (difference (vectors_of basis.moves) pair) m.entries
   pub rest : IsRest basis.grading m
   pub normal : IsNormal (vectors_of basis.moves) m.entries
 
 -- what is left of the pair's difference
-abbrev pub IsRemainder : TheBasis → Pair → Option Weighed → Type 0
+abbrev pub IsRemainder : BasisView → Pair → Option Weighed → Type 0
 IsRemainder basis pair None = Reduct (vectors_of basis.moves) (difference (vectors_of basis.moves) pair) (zeros (length basis.grading))
 IsRemainder basis pair (Some m) = IsNormalRest basis pair m
 
@@ -38,7 +38,7 @@ fault_for pair operand StopMemory = Memory
 fault_for pair operand (StopOverflow by at) = Overflow (record { i = pair.first; j = pair.second; by = by; operand = operand; at = at })
 
 -- the remainder of the pair that the first worker, and no other, has claimed
-pub record IsRemainderOfClaim (ledger : TheLedger) (m : Weighed) : Type 0 where
+pub record IsRemainderOfClaim (ledger : LedgerView) (m : Weighed) : Type 0 where
   pub pair : Pair
   pub claims : FirstClaims ledger.state pair
   pub rest : IsNormalRest ledger.basis pair m

@@ -4,9 +4,9 @@ use Rattle.mk_model.specs.Bases.{IsMarkov}
 use Rattle.mk_model.specs.Orders.{standard}
 use Rattle.mk_model.specs.Pairs.{EveryPairJoined}
 use Rattle.mk_model.specs.Saturation.{NoneRedundant}
-use Rattle.mk_move.specs.MoveLists.{TheBasis, IsBasis, vectors_of}
+use Rattle.mk_move.specs.MoveLists.{BasisView, IsBasis, vectors_of}
 
-pub record IsSaturated (basis : TheBasis) : Type 0 where
+pub record IsSaturated (basis : BasisView) : Type 0 where
   pub kept : IsBasis basis
   pub standard_list : basis.priority ≡ standard (length basis.grading)
   pub none_redundant : NoneRedundant (vectors_of basis.moves)

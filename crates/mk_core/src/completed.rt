@@ -3,6 +3,7 @@ ghost use Rattle.mk_model.specs.CoreStates.{start_of};
 ghost use Rattle.mk_model.specs.Pairs.{AreOrientedMoves, EveryPairJoined};
 ghost use Rattle.mk_move.specs.MoveLists.{vectors_of};
 ghost use Rattle.mk_core.specs.Phases.{IsCompleted, state_of};
+ghost use Rattle.mk_model.specs.Lattices.{lattice_of};
 
 use crate::phase::Phase;
 use std::marker::Model;
@@ -40,7 +41,7 @@ impl Completed {
         ensures value { result.now ≡ self.now }
         ensures kept { IsCompleted self.now }
         ensures joined { (rows : List (List ℤ)) →
-            AreOrientedMoves (length self.now.basis.grading) rows self.now.basis.grading self.now.basis.priority (start_of (state_of self.now 0 0)) →
+            AreOrientedMoves (lattice_of (length self.now.basis.grading) rows self.now.basis.grading) self.now.basis.priority (start_of (state_of self.now 0 0)) →
             EveryPairJoined (length self.now.basis.grading) self.now.basis.priority (vectors_of self.now.basis.moves) }
     {
         &self.phase

@@ -5,7 +5,7 @@ ghost use Rattle.mk_model.specs.CoreStates.{Halt, pair_of, claim_of, halt_of};
 ghost use Rattle.mk_model.specs.Legal.{IsEnded};
 ghost use Rattle.mk_move.specs.MoveLists.{vectors_of};
 ghost use Rattle.mk_reduce.specs.Leads.{leads_of};
-ghost use Rattle.mk_core.specs.GoingOn.{GoesOn, GoesOnUnclaimed, IsPairGiven, NoneClaims, FirstClaims, EndsBy, IsPhaseOf};
+ghost use Rattle.mk_core.specs.GoingOn.{ContinuesLedger, GoesOnUnclaimed, IsPairGiven, NoneClaims, FirstClaims, EndsBy, IsPhaseOfLedger};
 ghost use Rattle.mk_core.specs.Phases.{ledger_for, Finishes, HandsOn};
 ghost use Rattle.mk_core.specs.Remainders.{IsRemainderOfClaim};
 
@@ -81,7 +81,7 @@ fn settle_pairs(
 ) -> Result<Ending, NoMemory>
     requires unclaimed { NoneClaims ledger.old.state }
     requires leads { finder.old ≡ leads_of ledger.old.basis.moves }
-    ensures goes_on { OnOk result (GoesOn ledger.old ledger.new) }
+    ensures goes_on { OnOk result (ContinuesLedger ledger.old ledger.new) }
     ensures ending { IfOk result (EndsBy ledger.new.state) }
 {
     loop {
@@ -175,7 +175,7 @@ fn over_budget(ledger: Ledger) -> Stopped
 
 /// What a ledger has done.
 fn phase_of(ledger: Ledger) -> Phase
-    ensures { IsPhaseOf ledger result }
+    ensures { IsPhaseOfLedger ledger result }
 {
     let LedgerParts {
         start_len,

@@ -11,10 +11,10 @@ pub struct SaturatedBasis {
 }
 
 impl Model for SaturatedBasis {
-    ghost use Rattle.mk_move.specs.MoveLists.{TheBasis};
+    ghost use Rattle.mk_move.specs.MoveLists.{BasisView};
     ghost use Rattle.mk_core.specs.SaturatedBases.{IsSaturated};
 
-    ghost Value = { TheBasis };
+    ghost Value = { BasisView };
 
     ghost view = { λ s. s.basis };
 

@@ -7,7 +7,7 @@ use Rattle.std.proofs.Math.Seq.{take-add}
 use Rattle.mk_model.specs.Tables.{is_space, begins_with_space, with_first, tokens}
 use Rattle.mk_model.proofs.TokenCuts.{tokens_by, tokens-append, tokens-white, tokens-white_all}
 use Rattle.mk_files.specs.declared.tokens.Token.{Token}
-use Rattle.mk_files.specs.Tokens.{IsRun, IsCut, IsNextToken}
+use Rattle.mk_files.specs.Tokens.{IsRun, IsTokenCut, IsNextToken}
 
 not_false : (b : Bool) → b ≢ false → b ≡ true
 not_false true h = refl
@@ -50,11 +50,11 @@ word_run (suc k) bytes some word run =
     (ends, tokens-first k bytes (omega (arith, run.within)) run.same ends)
 
 -- ---- cuts
-pub cut_start : (bytes : List ℕ) → IsCut bytes 0
+pub cut_start : (bytes : List ℕ) → IsTokenCut bytes 0
 unfolding tokens
 cut_start bytes = record { within = omega arith; whole = refl }
 
-cut_at : (bytes : List ℕ) (k : ℕ) → k < length bytes + 1 → begins_with_space (drop k bytes) ≡ true → IsCut bytes k
+cut_at : (bytes : List ℕ) (k : ℕ) → k < length bytes + 1 → begins_with_space (drop k bytes) ≡ true → IsTokenCut bytes k
 cut_at bytes k within ends = record {
   within = omega arith;
   whole = ap tokens (sym (take-append-drop k bytes)) ∙ tokens-append (take k bytes) (drop k bytes) ends;
@@ -77,7 +77,7 @@ pub no_token : (bytes : List ℕ) (from white : ℕ) → IsRun (drop from bytes)
 no_token bytes from white run all =
     ap tokens (sym (take_all (from + white) bytes (omega arith))) ∙ white_behind bytes from white run
 
-pub next : (bytes : List ℕ) (from white len : ℕ) (token : Token) → IsCut bytes from → IsRun (drop from bytes) true white → from + white < length bytes → token.start ≡ from + white → IsRun (drop token.start bytes) false len → token.end ≡ token.start + len → IsNextToken bytes from token
+pub next : (bytes : List ℕ) (from white len : ℕ) (token : Token) → IsTokenCut bytes from → IsRun (drop from bytes) true white → from + white < length bytes → token.start ≡ from + white → IsRun (drop token.start bytes) false len → token.end ≡ token.start + len → IsNextToken bytes from token
 next bytes from white len token cut space more is_start word is_end =
     let start = token.start in
     let end = token.end in
@@ -97,7 +97,7 @@ next bytes from white len token cut space more is_start word is_end =
     ∙ ap (λ (bs : List ℕ). slice_range bytes start end ∷ tokens bs) behind in
     let whole : tokens bytes ≡ tokens (take from bytes) ++ slice_range bytes start end ∷ tokens (drop end bytes) =
     cut.whole ∙ ap (λ ts. tokens (take from bytes) ++ ts) rest in
-    let cut_end : IsCut bytes end =
+    let cut_end : IsTokenCut bytes end =
     cut_at bytes end (omega (arith, word.within, length-drop start bytes)) (ap begins_with_space (sym behind) ∙ run.0) in
     record {
       ordered = omega arith;

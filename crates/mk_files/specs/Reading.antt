@@ -11,7 +11,7 @@ use Rattle.mk_files.specs.declared.fault.TableFault.TheVariants.{Memory, NoHeade
 use Rattle.mk_files.specs.declared.tokens.Token.{Token}
 use Rattle.mk_files.specs.Bounds.{IsWithin, limits_of}
 use Rattle.mk_files.specs.Places.{place_at}
-use Rattle.mk_files.specs.Tokens.{IsCut, token_bytes}
+use Rattle.mk_files.specs.Tokens.{IsTokenCut, token_bytes}
 
 -- the result is this very grid, unless memory ran out
 abbrev pub GivesGrid : Grid → Result Grid TableFault → Type 0
@@ -42,7 +42,7 @@ IsEntryFault bytes bounds token fault =
 
 -- the text up to a byte is a number of rows
 pub record RowsRead (bytes : List ℕ) (bounds : Bounds) (rows end : ℕ) : Type 0 where
-  pub cut : IsCut bytes end
+  pub cut : IsTokenCut bytes end
   pub rows_token : List ℕ
   pub front : tokens (take end bytes) ≡ rows_token ∷ []
   pub count : IsCount rows_token rows
@@ -50,7 +50,7 @@ pub record RowsRead (bytes : List ℕ) (bounds : Bounds) (rows end : ℕ) : Type
 
 -- the text up to a byte is a number of rows, a number of columns, and entries, all of them the grid's
 pub record EntriesRead (bytes : List ℕ) (bounds : Bounds) (grid : Grid) (end : ℕ) : Type 0 where
-  pub cut : IsCut bytes end
+  pub cut : IsTokenCut bytes end
   pub rows_token : List ℕ
   pub columns_token : List ℕ
   pub entry_tokens : List (List ℕ)

@@ -11,7 +11,7 @@ pub record IsRun (bytes : List ℕ) (white : Bool) (len : ℕ) : Type 0 where
   pub longest : len < length bytes → is_space (slice_index bytes len) ≢ white
 
 -- no token goes on over the byte
-pub record IsCut (bytes : List ℕ) (byte : ℕ) : Type 0 where
+pub record IsTokenCut (bytes : List ℕ) (byte : ℕ) : Type 0 where
   pub within : byte ≤ length bytes
   pub whole : tokens bytes ≡ tokens (take byte bytes) ++ tokens (drop byte bytes)
 
@@ -22,5 +22,5 @@ token_bytes bytes token = slice_range bytes token.start token.end
 pub record IsNextToken (bytes : List ℕ) (from : ℕ) (token : Token) : Type 0 where
   pub ordered : token.start ≤ token.end
   pub token_at : TokenAt bytes token.start (tokens (take from bytes)) (token_bytes bytes token)
-  pub cut : IsCut bytes token.end
+  pub cut : IsTokenCut bytes token.end
   pub front : tokens (take token.end bytes) ≡ tokens (take from bytes) ++ token_bytes bytes token ∷ []

@@ -1,6 +1,6 @@
 ghost use Rattle.std.specs.Prelude.{◌≡◌, take, MatchOption};
 ghost use Rattle.mk_model.specs.Tables.{is_space, tokens};
-ghost use Rattle.mk_files.specs.Tokens.{IsRun, IsCut, IsNextToken};
+ghost use Rattle.mk_files.specs.Tokens.{IsRun, IsTokenCut, IsNextToken};
 
 /// A token of a text: its first byte, and the byte behind its last.
 #[derive(Clone, Copy)]
@@ -30,7 +30,7 @@ fn run_len(bytes: &[u8], white: bool) -> usize
 
 /// The first token behind a byte.
 pub fn next_token(bytes: &[u8], from: usize) -> Option<Token>
-    requires { IsCut bytes.now from }
+    requires { IsTokenCut bytes.now from }
     ensures { MatchOption result
         (tokens bytes.now ≡ tokens (take from bytes.now))
         (IsNextToken bytes.now from) }

@@ -5,9 +5,9 @@ use Rattle.std.proofs.lemmas.Int.{ints}
 use Rattle.std.proofs.lemmas.List.{length-replicate}
 use Rattle.std.proofs.lemmas.List.Elements.{All-head, All-tail, All-replicate, All-filter, All-weaker, All-get_or}
 use Rattle.mk_model.specs.Vectors.{zeros, add, weight}
-use Rattle.mk_model.specs.Lattices.{ones, IsGrading}
+use Rattle.mk_model.specs.Lattices.{ones}
 use Rattle.mk_model.specs.Tables.{Grid, rows_of}
-use Rattle.mk_model.specs.ChosenGradings.{IsColumnWeight, IsOrthogonal, FitsMatrix, FitsGrade, nonnegative_rows, sum_of_rows, matrix_sum}
+use Rattle.mk_model.specs.ChosenGradings.{IsGradingOf, IsColumnWeight, IsOrthogonal, FitsMatrix, FitsGrade, nonnegative_rows, sum_of_rows, matrix_sum}
 use Rattle.mk_model.proofs.VectorAlgebra.{weight-add, weight-zeros}
 use Rattle.mk_grading.proofs.RowsRead.{rows_columns}
 use Rattle.mk_grading.proofs.RowsSummed.{is_nonnegative}
@@ -29,7 +29,7 @@ sum_of_rows-weight n (row ∷ rows) x h =
     omega (arith, ints, weight_comm (add row (sum_of_rows n rows)) x, weight-add x row (sum_of_rows n rows), weight_comm row x, weight_comm (sum_of_rows n rows) x, first, others)
 
 module _ (lat : Grid) (filled : length lat.entries ≡ lat.rows * lat.columns) where
-  graded : (w : List ℤ) → length w ≡ lat.columns → All (λ k. pos 1 ≤ℤ k) w → IsOrthogonal lat w → IsGrading lat.columns (rows_of lat) w
+  graded : (w : List ℤ) → length w ≡ lat.columns → All (λ k. pos 1 ≤ℤ k) w → IsOrthogonal lat w → IsGradingOf lat w
   graded w columns positive products = record {
     columns = columns;
     positive = λ c l. All-get_or (λ k. pos 1 ≤ℤ k) w c (pos 0) (omega (arith, columns)) positive;
@@ -37,15 +37,15 @@ module _ (lat : Grid) (filled : length lat.entries ≡ lat.rows * lat.columns) w
     rows_weight = products;
   }
 
-  pub graded_by_ones : IsOrthogonal lat (ones lat.columns) → IsGrading lat.columns (rows_of lat) (ones lat.columns)
+  pub graded_by_ones : IsOrthogonal lat (ones lat.columns) → IsGradingOf lat (ones lat.columns)
   graded_by_ones products =
       graded (ones lat.columns) (length-replicate lat.columns (pos 1)) (All-replicate (λ k. pos 1 ≤ℤ k) lat.columns (pos 1) (omega (arith, ints))) products
 
-  pub graded_by_grade : (grade : Grid) → length grade.entries ≡ grade.rows * grade.columns → FitsGrade lat grade → IsGrading lat.columns (rows_of lat) grade.entries
+  pub graded_by_grade : (grade : Grid) → length grade.entries ≡ grade.rows * grade.columns → FitsGrade lat grade → IsGradingOf lat grade.entries
   graded_by_grade grade all fits =
       graded grade.entries (omega (arith, all, ap (λ n. n * grade.columns) fits.shape.rows, fits.shape.columns)) fits.positive fits.products
 
-  pub graded_by_sum : (matrix : Grid) → FitsMatrix lat matrix → length (matrix_sum matrix) ≡ matrix.columns → All IsColumnWeight (matrix_sum matrix) → IsGrading lat.columns (rows_of lat) (matrix_sum matrix)
+  pub graded_by_sum : (matrix : Grid) → FitsMatrix lat matrix → length (matrix_sum matrix) ≡ matrix.columns → All IsColumnWeight (matrix_sum matrix) → IsGradingOf lat (matrix_sum matrix)
   graded_by_sum matrix fits columns weights =
       graded (matrix_sum matrix) (columns ∙ fits.columns) (All-weaker IsColumnWeight (λ k. pos 1 ≤ℤ k) (λ k h. h.0) (matrix_sum matrix) weights) products
     where

@@ -7,7 +7,7 @@ use Rattle.mk_model.specs.Vectors.{weight}
 use Rattle.mk_model.specs.Lattices.{ones}
 use Rattle.mk_model.specs.Tables.{Grid, rows_of}
 use Rattle.mk_model.specs.ChosenGradings.{IsOrthogonal, IsColumnWeight, FitsMatrix, HasGradeShape, matrix_sum, IsOnesOrSum, IsSource, IsGradeOf, HasOtherColumns, IsFirstProduct, IsMatrixMismatch, HasOtherShape, IsFirstBelowOne, IsGradeMismatch, HasNoSource}
-use Rattle.mk_grading.specs.Choices.{IsCause}
+use Rattle.mk_grading.specs.Choices.{IsGradeFault}
 use Rattle.mk_grading.specs.declared.fault.GradeFault.{GradeFault}
 use Rattle.mk_grading.specs.declared.fault.GradeFault.TheVariants.{Memory, MatColumns, MatMismatch, GradeShape, GradeNotPositive, GradeMismatch, NoGrading}
 use Rattle.mk_grading.proofs.RowsRead.{got_holds}
@@ -16,7 +16,7 @@ use Rattle.mk_grading.proofs.FirstFailures.{one_first, some_not_all, same_elemen
 -- the grading, or the cause of the refusal
 abbrev pub IsChoice : Grid → Option Grid → Option Grid → Result (List ℤ) GradeFault → Type 0
 IsChoice lat mat grade (Ok w) = IsGradeOf lat mat grade w
-IsChoice lat mat grade (Err fault) = IsCause lat mat grade fault
+IsChoice lat mat grade (Err fault) = IsGradeFault lat mat grade fault
 
 -- ---- what is said of the table, if one is given
 some_and_if : {X : Type 0} (o : Option X) (P Q : X → Type 0) → IsSomeAnd o P → IfSome o Q → ((x : X) → P x → Q x → ⊥) → ⊥

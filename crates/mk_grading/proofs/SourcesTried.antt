@@ -4,16 +4,16 @@ use Rattle.std.specs.Option.{is_some}
 use Rattle.std.proofs.lemmas.Option.{slice_get_within, get_or_from_slice_get}
 use Rattle.std.proofs.lemmas.Int.{ints}
 use Rattle.std.proofs.lemmas.List.Elements.{All-replicate}
-use Rattle.mk_model.specs.Lattices.{ones, IsGrading}
+use Rattle.mk_model.specs.Lattices.{ones}
 use Rattle.mk_model.specs.Tables.{Grid, rows_of}
-use Rattle.mk_model.specs.ChosenGradings.{IsColumnWeight, IsOrthogonal, HasNonzeroProduct, IsFirstProduct, FitsMatrix, matrix_sum, IsOnesOrSum, HasNoSource}
+use Rattle.mk_model.specs.ChosenGradings.{IsGradingOf, IsColumnWeight, IsOrthogonal, HasNonzeroProduct, IsFirstProduct, FitsMatrix, matrix_sum, IsOnesOrSum, HasNoSource}
 use Rattle.mk_grading.specs.declared.fault.GradeFault.{GradeFault}
 use Rattle.mk_grading.specs.declared.fault.GradeFault.TheVariants.{Memory, NoGrading}
 use Rattle.mk_grading.proofs.FirstFailures.{some_not_all}
 use Rattle.mk_grading.proofs.GradedRows.{graded_by_ones, graded_by_sum}
 
 -- the grading of these weights, if they are in range
-pub record IsGradingOf (weights : List ℤ) (r : Result (List ℤ) GradeFault) : Type 0 where
+pub record IsGradingMade (weights : List ℤ) (r : Result (List ℤ) GradeFault) : Type 0 where
   pub value : IfOk r (λ grading. grading ≡ weights)
   pub in_range : IfOk r (All IsColumnWeight)
   pub refused : IfErr r (λ fault. (fault ≡ Memory) ⊎ ((fault ≡ NoGrading) × Any (λ k. ¬ (IsColumnWeight k)) weights))
@@ -31,7 +31,7 @@ HasNonzeroProduct-from_first lat w (Some (r, v)) e h =
 -- what is answered without a grade
 pub record IsSourced (lat : Grid) (mat : Option Grid) (r : Result (List ℤ) GradeFault) : Type 0 where
   pub chosen : IfOk r (IsOnesOrSum lat mat)
-  pub graded : IfOk r (IsGrading lat.columns (rows_of lat))
+  pub graded : IfOk r (IsGradingOf lat)
   pub caused : IfErr r (λ fault. (fault ≡ Memory) ⊎ ((fault ≡ NoGrading) × HasNoSource lat mat None))
 
 module _ (lat : Grid) (filled : length lat.entries ≡ lat.rows * lat.columns) (mat : Option Grid) where
@@ -39,10 +39,10 @@ module _ (lat : Grid) (filled : length lat.entries ≡ lat.rows * lat.columns) (
   ones_in_range : Any (λ k. ¬ (IsColumnWeight k)) (ones lat.columns) → ⊥
   ones_in_range h = some_not_all IsColumnWeight (ones lat.columns) h (All-replicate IsColumnWeight lat.columns (pos 1) (omega (arith, ints), omega (arith, ints)))
 
-  pub ones_tried : (r : Result (List ℤ) GradeFault) → IsOrthogonal lat (ones lat.columns) → IsGradingOf (ones lat.columns) r → IsSourced lat mat r
+  pub ones_tried : (r : Result (List ℤ) GradeFault) → IsOrthogonal lat (ones lat.columns) → IsGradingMade (ones lat.columns) r → IsSourced lat mat r
   ones_tried (Ok w) sums h = record {
     chosen = inl (sums, h.value);
-    graded = subst (IsGrading lat.columns (rows_of lat)) (sym h.value) (graded_by_ones lat filled sums);
+    graded = subst (IsGradingOf lat) (sym h.value) (graded_by_ones lat filled sums);
     caused = tt;
   }
   ones_tried (Err fault) sums h = record { chosen = tt; graded = tt; caused = only_memory h.refused }
@@ -52,12 +52,12 @@ module _ (lat : Grid) (filled : length lat.entries ≡ lat.rows * lat.columns) (
       only_memory (inr (no_grading, outside)) = absurd (ones_in_range outside)
 
   module _ (matrix : Grid) (given : mat ≡ Some matrix) (fits : FitsMatrix lat matrix) (long : length (matrix_sum matrix) ≡ matrix.columns) (not_ones : HasNonzeroProduct lat (ones lat.columns)) where
-    pub sum_tried : (r : Result (List ℤ) GradeFault) → IsGradingOf (matrix_sum matrix) r → IsSourced lat mat r
+    pub sum_tried : (r : Result (List ℤ) GradeFault) → IsGradingMade (matrix_sum matrix) r → IsSourced lat mat r
     sum_tried (Ok w) h =
         let weights = subst (All IsColumnWeight) h.value h.in_range in
         record {
           chosen = inr (not_ones, rw given (weights, h.value));
-          graded = subst (IsGrading lat.columns (rows_of lat)) (sym h.value) (graded_by_sum lat filled matrix fits long weights);
+          graded = subst (IsGradingOf lat) (sym h.value) (graded_by_sum lat filled matrix fits long weights);
           caused = tt;
         }
     sum_tried (Err fault) h = record { chosen = tt; graded = tt; caused = no_source h.refused }

@@ -1,9 +1,8 @@
 ghost use Rattle.std.specs.Prelude.{◌≡◌, ◌≤◌, ◌⊎◌, length, List, All, Any, None, IfSome, IfOk, IfErr, ℤ};
 ghost use Rattle.std.specs.Option.{option_copied};
 ghost use Rattle.mk_model.specs.Tables.{rows_of};
-ghost use Rattle.mk_model.specs.Lattices.{IsGrading};
-ghost use Rattle.mk_model.specs.ChosenGradings.{IsSmallEntry, IsColumnWeight, FitsMatrix, IsGradeOf, IsOnesOrSum, HasNoSource};
-ghost use Rattle.mk_grading.specs.Choices.{IsCause};
+ghost use Rattle.mk_model.specs.ChosenGradings.{IsGradingOf, IsSmallEntry, IsColumnWeight, FitsMatrix, IsGradeOf, IsOnesOrSum, HasNoSource};
+ghost use Rattle.mk_grading.specs.Choices.{IsGradeFault};
 ghost use Rattle.mk_grading.specs.declared.fault.GradeFault.{GradeFault};
 
 use crate::fault::GradeFault;
@@ -27,12 +26,12 @@ pub fn choose(
     requires matrix { IfSome (option_copied mat) (λ matrix. All IsSmallEntry matrix.entries) }
     requires grade { IfSome (option_copied grade) (λ given. All IsSmallEntry given.entries) }
     ensures chosen { IfOk result (IsGradeOf lat.now (option_copied mat.entry) (option_copied grade.entry)) }
-    ensures graded { IfOk result (IsGrading lat.now.columns (rows_of lat.now)) }
+    ensures graded { IfOk result (IsGradingOf lat.now) }
     ensures caused { IfErr result (λ fault. (fault ≡ GradeFault.Memory)
-        ⊎ IsCause lat.now (option_copied mat.entry) (option_copied grade.entry) fault) }
+        ⊎ IsGradeFault lat.now (option_copied mat.entry) (option_copied grade.entry) fault) }
     ensures answered { (w : List ℤ) → IsGradeOf lat.now (option_copied mat.entry) (option_copied grade.entry) w →
         (result ≡ Ok w) ⊎ (result ≡ Err GradeFault.Memory) }
-    ensures refused { (fault : GradeFault) → IsCause lat.now (option_copied mat.entry) (option_copied grade.entry) fault →
+    ensures refused { (fault : GradeFault) → IsGradeFault lat.now (option_copied mat.entry) (option_copied grade.entry) fault →
         (result ≡ Err fault) ⊎ (result ≡ Err GradeFault.Memory) }
 {
     check_matrix(lat, mat)?;
@@ -48,7 +47,7 @@ fn ones_or_sum(alloc: Global, lat: &Table, mat: Option<&Table>) -> Result<Gradin
     requires small { IfSome (option_copied mat) (λ matrix. All IsSmallEntry matrix.entries) }
     requires fits { IfSome (option_copied mat) (FitsMatrix lat.now) }
     ensures chosen { IfOk result (IsOnesOrSum lat.now (option_copied mat.entry)) }
-    ensures graded { IfOk result (IsGrading lat.now.columns (rows_of lat.now)) }
+    ensures graded { IfOk result (IsGradingOf lat.now) }
     ensures caused { IfErr result (λ fault. (fault ≡ GradeFault.Memory)
         ⊎ ((fault ≡ GradeFault.NoGrading) × HasNoSource lat.now (option_copied mat.entry) None)) }
 {

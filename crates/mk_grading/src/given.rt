@@ -1,9 +1,8 @@
 ghost use Rattle.std.specs.Prelude.{◌≡◌, ◌≤◌, length, All, Option, Some, IfSome, IfErr, OnOk};
 ghost use Rattle.std.specs.Option.{option_copied};
 ghost use Rattle.mk_model.specs.Tables.{Grid, rows_of};
-ghost use Rattle.mk_model.specs.Lattices.{IsGrading};
-ghost use Rattle.mk_model.specs.ChosenGradings.{IsSmallEntry, FitsMatrix, FitsGrade};
-ghost use Rattle.mk_grading.specs.Choices.{IsCause};
+ghost use Rattle.mk_model.specs.ChosenGradings.{IsGradingOf, IsSmallEntry, FitsMatrix, FitsGrade};
+ghost use Rattle.mk_grading.specs.Choices.{IsGradeFault};
 
 use crate::fault::GradeFault;
 use crate::products::first_product;
@@ -13,7 +12,7 @@ use mk_files::Table;
 pub(crate) fn check_matrix(lat: &Table, mat: Option<&Table>) -> Result<(), GradeFault>
     requires { IfSome (option_copied mat) (λ matrix. All IsSmallEntry matrix.entries) }
     ensures fits { OnOk result (IfSome (option_copied mat.entry) (FitsMatrix lat.now)) }
-    ensures caused { IfErr result (λ fault. (grade : Option Grid) → IsCause lat.now (option_copied mat.entry) grade fault) }
+    ensures caused { IfErr result (λ fault. (grade : Option Grid) → IsGradeFault lat.now (option_copied mat.entry) grade fault) }
 {
     let Some(matrix) = mat else {
         return Ok(());
@@ -40,9 +39,9 @@ pub(crate) fn check_matrix(lat: &Table, mat: Option<&Table>) -> Result<(), Grade
 pub(crate) fn check_grade(lat: &Table, grade: &Table) -> Result<(), GradeFault>
     requires { All IsSmallEntry grade.now.entries }
     ensures fits { OnOk result (FitsGrade lat.now grade.now) }
-    ensures graded { OnOk result (IsGrading lat.now.columns (rows_of lat.now) grade.now.entries) }
+    ensures graded { OnOk result (IsGradingOf lat.now grade.now.entries) }
     ensures caused { IfErr result (λ fault. (mat : Option Grid) → IfSome mat (FitsMatrix lat.now) →
-        IsCause lat.now mat (Some grade.now) fault) }
+        IsGradeFault lat.now mat (Some grade.now) fault) }
 {
     if grade.rows() != 1 || grade.columns() != lat.columns() {
         return Err(GradeFault::GradeShape {

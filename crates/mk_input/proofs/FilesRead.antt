@@ -7,7 +7,7 @@ use Rattle.mk_files.specs.declared.fault.TableFault.{TableFault}
 use Rattle.mk_files.specs.declared.fault.TableFault.TheVariants.{Memory as TableMemory}
 use Rattle.mk_desk.specs.Folders.{Files, Desk}
 use Rattle.mk_desk.proofs.Loading.{the_error}
-use Rattle.mk_grading.specs.Choices.{IsCause}
+use Rattle.mk_grading.specs.Choices.{IsGradeFault}
 use Rattle.mk_grading.specs.declared.fault.GradeFault.{GradeFault}
 use Rattle.mk_grading.specs.declared.fault.GradeFault.TheVariants.{Memory as ChoiceMemory}
 use Rattle.mk_solve.specs.declared.fault.InputFile.{InputFile}
@@ -60,14 +60,14 @@ three_read project lat mat grade x z w two then = (
 )
 
 -- a fault of the choice that has a cause is one of the input
-choice_fault : (lat : Grid) (mat grade : Option Grid) (fault : GradeFault) → IsCause lat mat grade fault → choice_refused fault ≡ Input (NoGrade fault)
+choice_fault : (lat : Grid) (mat grade : Option Grid) (fault : GradeFault) → IsGradeFault lat mat grade fault → choice_refused fault ≡ Input (NoGrade fault)
 choice_fault lat mat grade ChoiceMemory cause = absurd cause
 choice_fault lat mat grade fault cause = refl
 
 -- no grading is chosen for the tables that were read
 pub none_chosen : (project : List ℕ) (lat : Grid) (mat grade : Option Grid) (fault : GradeFault) (result : Result Problem ReadFault)
     → IsErrAnd result (λ e. e ≡ choice_refused fault)
-    → (fault ≡ ChoiceMemory) ⊎ IsCause lat mat grade fault
+    → (fault ≡ ChoiceMemory) ⊎ IsGradeFault lat mat grade fault
     → (x w : Desk) → ReadsThree project lat mat grade x w → ReadsProject project result x w
 none_chosen project lat mat grade fault result is cause x w three =
     subst (λ (r : Result Problem ReadFault). ReadsProject project r x w) (sym (the_error result (choice_refused fault) is))

@@ -2,13 +2,12 @@
 use Rattle.std.specs.Prelude.{◌≡◌, ℕ, ◌+◌, ◌<◌, ◌≤◌, List, ◌++◌, length, Option, Some, None, IsSomeAnd, ℤ, pos, neg_ℤ, codes}
 use Rattle.std.specs.FinMap.{get}
 use Rattle.mk_model.specs.declared.TheConstants.{ENTRY_MAX}
-use Rattle.mk_model.specs.ChosenGradings.{IsGradeOf}
-use Rattle.mk_model.specs.Lattices.{IsGrading}
+use Rattle.mk_model.specs.ChosenGradings.{IsGradingOf, IsGradeOf}
 use Rattle.mk_model.specs.Tables.{Grid, rows_of, Limits, ReadsTable}
 use Rattle.mk_files.specs.Reading.{IsFaultOf}
 use Rattle.mk_files.specs.declared.fault.TableFault.{TableFault}
 use Rattle.mk_desk.specs.Folders.{Files}
-use Rattle.mk_grading.specs.Choices.{IsCause}
+use Rattle.mk_grading.specs.Choices.{IsGradeFault}
 use Rattle.mk_solve.specs.declared.fault.InputFile.{InputFile}
 use Rattle.mk_solve.specs.declared.fault.InputFile.TheVariants.{Lat, Mat, Grade}
 use Rattle.mk_solve.specs.declared.fault.InputFault.{InputFault}
@@ -80,7 +79,7 @@ pub record IsProblem (files : ProjectFiles) (lat : Grid) (grading : List ℤ) : 
   pub grade : Option Grid
   pub tables : HasTables files lat mat grade
   pub chosen : IsGradeOf lat mat grade grading
-  pub positive : IsGrading lat.columns (rows_of lat) grading
+  pub positive : IsGradingOf lat grading
 
 -- the file is there and longer than the limit, of which so much is read
 abbrev pub IsTooLong : Option (List ℕ) → ℕ → Type 0
@@ -113,4 +112,4 @@ IsFaulty files (FileSize Grade read) = IsMatrixRead files × IsTooLong files.gra
 IsFaulty files (Table Lat fault) = IsNoTable lattice_limits files.lat fault
 IsFaulty files (Table Mat fault) = IsLatticeRead files × IsNoTable small_limits files.mat fault
 IsFaulty files (Table Grade fault) = IsMatrixRead files × IsNoTable small_limits files.grade fault
-IsFaulty files (NoGrade fault) = (lat : Grid) × (mat : Option Grid) × (grade : Option Grid) × HasTables files lat mat grade × IsCause lat mat grade fault
+IsFaulty files (NoGrade fault) = (lat : Grid) × (mat : Option Grid) × (grade : Option Grid) × HasTables files lat mat grade × IsGradeFault lat mat grade fault

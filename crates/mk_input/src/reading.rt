@@ -1,5 +1,5 @@
 ghost use Rattle.std.specs.Prelude.{◌≡◌, ◌≤◌, ◌⊎◌, neg_ℤ, ◌≤ℤ◌, All, IfOk, IfErr, IfSome, OnOk};
-ghost use Rattle.mk_model.specs.Lattices.{IsGrading};
+ghost use Rattle.mk_model.specs.ChosenGradings.{IsGradingOf};
 ghost use Rattle.mk_model.specs.Tables.{rows_of, ReadsTable};
 ghost use Rattle.mk_files.specs.Bounds.{limits_of, IsWithin};
 ghost use Rattle.mk_files.specs.Reading.{IsFaultOf};
@@ -44,7 +44,7 @@ pub fn read_project<F: Folder>(
     folder: &mut F,
     project: &str,
 ) -> Result<Problem, ReadFault>
-    ensures positive { IfOk result (λ problem. IsGrading problem.lat.columns (rows_of problem.lat) problem.grading) }
+    ensures positive { IfOk result (λ problem. IsGradingOf problem.lat problem.grading) }
     ensures making { (F.state folder.new).making ≡ (F.state folder.old).making }
     ensures cause { HasCause ReadFault.Failed (F.state folder.old) (F.state folder.new) result }
     ensures shown { IsShown (F.state folder.new) result }

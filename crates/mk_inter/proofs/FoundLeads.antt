@@ -10,7 +10,7 @@ use Rattle.mk_model.specs.Reductions.{Divides, IsIrreducible}
 use Rattle.mk_model.specs.Reductions.Reaches.{here}
 use Rattle.mk_model.proofs.VectorAlgebra.{length-positive_part}
 use Rattle.mk_move.specs.Moves.{Weighed}
-use Rattle.mk_move.specs.MoveLists.{TheBasis, BelongsTo, vectors_of}
+use Rattle.mk_move.specs.MoveLists.{BasisView, BelongsTo, vectors_of}
 use Rattle.mk_move.specs.Sides.{DividesAt}
 use Rattle.mk_reduce.specs.Leads.{leads_of}
 use Rattle.mk_core.specs.SaturatedBases.{IsSaturated}
@@ -39,7 +39,7 @@ leads_more moves k m at =
     ap leads_of (take_more moves k m (slice_get_within moves k m at) ∙ ap (λ x. take k moves ++ x ∷ []) (get_or_from_slice_get moves k m m at))
     ∙ map-append (λ (m : Weighed). lead m.entries) (take k moves) (m ∷ [])
 
-module _ (basis : TheBasis) (s : IsSaturated basis) (index : ℕ) (of_list : index < length basis.moves) where
+module _ (basis : BasisView) (s : IsSaturated basis) (index : ℕ) (of_list : index < length basis.moves) where
   pub begun : (m : Weighed) → slice_get basis.moves index ≡ Some m → BelongsTo basis.priority basis.grading m → HasTailReduced basis index m
   begun m at belongs =
       let e = vector_at basis.moves index m at in

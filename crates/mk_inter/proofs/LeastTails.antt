@@ -4,7 +4,7 @@ use Rattle.std.proofs.Common.{[], ◌∷◌, ◌*ℤ◌, ◌≡◌, inl, inr, �
 use Rattle.std.proofs.lemmas.Int.{ints}
 use borrow.Author.Differences.{up}
 use Rattle.mk_model.specs.Vectors.{add, subtract, scale, negative_part, positive_part, weight, IsPoint}
-use Rattle.mk_model.specs.Lattices.{InLattice, IsGrading}
+use Rattle.mk_model.specs.Lattices.{lattice_of, InLattice, HasGrading}
 use Rattle.mk_model.specs.Orders.{IsBelow, IsOriented, standard, lead, tail}
 use Rattle.mk_model.specs.Bases.{IsMove}
 use Rattle.mk_model.specs.Reductions.{Divides, IsIrreducible}
@@ -44,7 +44,7 @@ stepped : (r m : List ℤ) → length m ≡ length r → subtract (lead r) (subt
 stepped r m l = same_vectors _ _ (omega (arith, lengths)) (λ c. omega (arith, ints, columns))
 
 module _ {n : ℕ} {rows : List (List ℤ)} {w : List ℤ} {moves : List (List ℤ)} (s : AreSaturated n rows w moves) where
-  abbrev grading : IsGrading n rows w
+  abbrev grading : HasGrading (lattice_of n rows w)
   grading = s.oriented.grading
 
   -- a lead and a vector below it in its fibre have no column in common: they are the ends of their difference
@@ -136,7 +136,7 @@ module _ {n : ℕ} {rows : List (List ℤ)} {w : List ℤ} {moves : List (List �
       (v, h, e ∙ (reduced_ends grading reduced).0)
 
 -- a lead has one move of the reduced basis
-pub reduced_once : {n : ℕ} {rows : List (List ℤ)} {w : List ℤ} (g : IsGrading n rows w) (a b : List ℤ) → IsReducedMove n rows a → IsReducedMove n rows b → lead a ≡ lead b → a ≡ b
+pub reduced_once : {n : ℕ} {rows : List (List ℤ)} {w : List ℤ} (g : HasGrading (lattice_of n rows w)) (a b : List ℤ) → IsReducedMove n rows a → IsReducedMove n rows b → lead a ≡ lead b → a ≡ b
 reduced_once {n} {rows} g a b r q e =
     r.difference ∙ ap (λ x. subtract x r.to) from ∙ ap (subtract q.from) to ∙ sym q.difference
   where

@@ -11,7 +11,7 @@ use Rattle.mk_model.specs.Lattices.{SameLattice}
 use Rattle.mk_model.specs.Orders.{lead, ComesBefore}
 use Rattle.mk_model.specs.ReducedBases.{IsReducedMove, IsReducedBasis}
 use Rattle.mk_move.specs.Moves.{Weighed, IsBefore, IsGraded}
-use Rattle.mk_move.specs.MoveLists.{TheBasis, BelongsTo, vectors_of}
+use Rattle.mk_move.specs.MoveLists.{lattice_spanned, BasisView, BelongsTo, vectors_of}
 use Rattle.mk_core.specs.SaturatedBases.{IsSaturated}
 use Rattle.mk_inter.specs.Tails.{IsReducedList}
 use Rattle.mk_inter.specs.TailSteps.{IsReducedFrom, IsEarlier, NoneEarlier}
@@ -23,14 +23,14 @@ use Rattle.mk_inter.proofs.MovesSorted.{IsEarlier-total}
 use Rattle.mk_inter.proofs.SameLattices.{same_lattice, basis_of_others}
 
 -- moves that are those of the reduced basis of the lattice that a basis spans, in some order
-pub record AreReduced (basis : TheBasis) (moves : List Weighed) : Type 0 where
+pub record AreReduced (basis : BasisView) (moves : List Weighed) : Type 0 where
   pub belongs : All (BelongsTo basis.priority basis.grading) moves
   pub each : All (λ m. IsReducedMove (length basis.grading) (vectors_of basis.moves) m.entries) moves
   pub complete : (m : List ℤ) → IsReducedMove (length basis.grading) (vectors_of basis.moves) m → Contains (vectors_of moves) m
   pub apart : AllApart (λ (a b : Weighed). lead a.entries ≢ lead b.entries) moves
 
 -- in another order
-pub AreReduced-permutation : (basis : TheBasis) (moves others : List Weighed) → IsPermutation moves others → AreReduced basis moves → AreReduced basis others
+pub AreReduced-permutation : (basis : BasisView) (moves others : List Weighed) → IsPermutation moves others → AreReduced basis moves → AreReduced basis others
 AreReduced-permutation basis moves others h a = record {
   belongs = All-permutation (BelongsTo basis.priority basis.grading) moves others h a.belongs;
   each = All-permutation (λ m. IsReducedMove (length basis.grading) (vectors_of basis.moves) m.entries) moves others h a.each;
@@ -46,7 +46,7 @@ zipped R (x ∷ xs) [] z k d e l = absurd z
 zipped R (x ∷ xs) (y ∷ ys) z zero d e l = z.0
 zipped R (x ∷ xs) (y ∷ ys) z (suc k) d e l = zipped R xs ys z.1 k d e (omega arith)
 
-module _ (basis : TheBasis) (s : IsSaturated basis) (tails : List Weighed) (z : AllZip (IsReducedFrom basis) (vectors_of basis.moves) tails) where
+module _ (basis : BasisView) (s : IsSaturated basis) (tails : List Weighed) (z : AllZip (IsReducedFrom basis) (vectors_of basis.moves) tails) where
   abbrev n : ℕ
   n = length basis.grading
 
@@ -106,7 +106,7 @@ before_of_earlier n w a b k l g h none apart = go (IsEarlier-total a b)
     go (inl (inr i)) = absurd (none i)
     go (inr e) = absurd (apart (ap (λ m. lead m.entries) e))
 
-module _ (basis : TheBasis) (s : IsSaturated basis) (moves : List Weighed) (all : AreReduced basis moves) (sorted : NoneEarlier moves) (few : length moves < 2 ^ 32) where
+module _ (basis : BasisView) (s : IsSaturated basis) (moves : List Weighed) (all : AreReduced basis moves) (sorted : NoneEarlier moves) (few : length moves < 2 ^ 32) where
   ascending_moves : AllPairs (ComesBefore (length basis.grading) basis.grading) (vectors_of moves)
   ascending_moves i j d h l =
       let none : Weighed = record { entries = d; weight = pos 0 } in
@@ -118,7 +118,7 @@ module _ (basis : TheBasis) (s : IsSaturated basis) (moves : List Weighed) (all 
       (sorted i j none h m) (all.apart i j none (λ e. omega (arith, h, e)) k m) in
       rw (get_or-map (λ (m : Weighed). m.entries) moves i none d k, get_or-map (λ (m : Weighed). m.entries) moves j none d m) before
 
-  pub reduced_basis : IsReducedBasis (length basis.grading) (vectors_of basis.moves) basis.grading (vectors_of moves)
+  pub reduced_basis : IsReducedBasis (lattice_spanned basis) (vectors_of moves)
   reduced_basis = record {
     ascending = ascending_moves;
     each = All-map (IsReducedMove (length basis.grading) (vectors_of basis.moves)) (λ (m : Weighed). m.entries) moves all.each;
@@ -136,13 +136,13 @@ module _ (basis : TheBasis) (s : IsSaturated basis) (moves : List Weighed) (all 
   }
 
 -- a list of moves, by its parts
-pub same_list : (made : TheBasis) (moves : List Weighed) (p : List ℕ) (w : List ℤ) → made.moves ≡ moves → made.priority ≡ p → made.grading ≡ w → made ≡ record { moves = moves; priority = p; grading = w }
+pub same_list : (made : BasisView) (moves : List Weighed) (p : List ℕ) (w : List ℤ) → made.moves ≡ moves → made.priority ≡ p → made.grading ≡ w → made ≡ record { moves = moves; priority = p; grading = w }
 same_list made moves p w e f g = λ i. record { moves = e i; priority = f i; grading = g i }
 
 -- ---- what is given for a basis
-module _ (basis given : TheBasis) (same : given ≡ basis) (s : IsSaturated basis) (tails moves : List Weighed) (z : AllZip (IsReducedFrom given) (vectors_of given.moves) tails) (order : IsPermutation tails moves) where
+module _ (basis given : BasisView) (same : given ≡ basis) (s : IsSaturated basis) (tails moves : List Weighed) (z : AllZip (IsReducedFrom given) (vectors_of given.moves) tails) (order : IsPermutation tails moves) where
   here : AllZip (IsReducedFrom basis) (vectors_of basis.moves) tails
-  here = subst (λ (b : TheBasis). AllZip (IsReducedFrom b) (vectors_of b.moves) tails) same z
+  here = subst (λ (b : BasisView). AllZip (IsReducedFrom b) (vectors_of b.moves) tails) same z
 
   pub reduced_moves : AreReduced basis moves
   reduced_moves = AreReduced-permutation basis tails moves order (are_reduced basis s tails here)
@@ -151,16 +151,16 @@ module _ (basis given : TheBasis) (same : given ≡ basis) (s : IsSaturated basi
   few_moves = omega (arith, length_permutation tails moves order, as_many basis s tails here, s.kept.few)
 
   pub belonging_moves : All (BelongsTo given.priority given.grading) moves
-  belonging_moves = subst (λ (b : TheBasis). All (BelongsTo b.priority b.grading) moves) (sym same) reduced_moves.belongs
+  belonging_moves = subst (λ (b : BasisView). All (BelongsTo b.priority b.grading) moves) (sym same) reduced_moves.belongs
 
-  module _ (sorted : NoneEarlier moves) (made : TheBasis) (a : made.moves ≡ moves) (b : made.priority ≡ given.priority) (c : made.grading ≡ given.grading) where
+  module _ (sorted : NoneEarlier moves) (made : BasisView) (a : made.moves ≡ moves) (b : made.priority ≡ given.priority) (c : made.grading ≡ given.grading) where
     made_is : made ≡ record { moves = moves; priority = basis.priority; grading = basis.grading }
     made_is = same_list made moves basis.priority basis.grading a (b ∙ ap (λ x. x.priority) same) (c ∙ ap (λ x. x.grading) same)
 
     pub made_list : IsReducedList made
     made_list = subst IsReducedList (sym made_is) (reduced_list basis s moves reduced_moves sorted few_moves)
 
-    pub made_reduced : IsReducedBasis (length basis.grading) (vectors_of basis.moves) basis.grading (vectors_of made.moves)
+    pub made_reduced : IsReducedBasis (lattice_spanned basis) (vectors_of made.moves)
     made_reduced = rw a (reduced_basis basis s moves reduced_moves sorted few_moves)
 
     pub made_spans : SameLattice (length basis.grading) (vectors_of basis.moves) (vectors_of made.moves)

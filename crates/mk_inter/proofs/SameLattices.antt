@@ -2,7 +2,7 @@
 use Rattle.std.proofs.Common.{◌≡◌, ℕ, suc, List, [], ◌∷◌, length, ℤ, pos, All, Contains, sym, subst}
 use Rattle.std.proofs.lemmas.List.Elements.{All-head, All-tail, All-weaker, All-contains}
 use Rattle.mk_model.specs.Vectors.{subtract, scale, weight}
-use Rattle.mk_model.specs.Lattices.{combination, InLattice, IsGrading, SameLattice}
+use Rattle.mk_model.specs.Lattices.{lattice_of, combination, InLattice, HasGrading, SameLattice}
 use Rattle.mk_model.specs.Orders.{lead, tail}
 use Rattle.mk_model.specs.Walks.{Members}
 use Rattle.mk_model.specs.ReducedBases.{IsLeast, IsReducedMove, IsReducedBasis}
@@ -25,8 +25,8 @@ combination_inside n others columns factors (row ∷ rows) each =
 pub InLattice-others : (n : ℕ) (others rows : List (List ℤ)) → AllColumns n others → All (InLattice n others) rows → (x : List ℤ) → InLattice n rows x → InLattice n others x
 InLattice-others n others rows columns each x (factors, e) = subst (InLattice n others) (sym e) (combination_inside n others columns factors rows each)
 
-module _ {n : ℕ} {rows : List (List ℤ)} {w : List ℤ} {moves : List (List ℤ)} (g : IsGrading n rows w) (basis : IsReducedBasis n rows w moves) where
-  grading_of_moves : IsGrading n moves w
+module _ {n : ℕ} {rows : List (List ℤ)} {w : List ℤ} {moves : List (List ℤ)} (g : HasGrading (lattice_of n rows w)) (basis : IsReducedBasis (lattice_of n rows w) moves) where
+  grading_of_moves : HasGrading (lattice_of n moves w)
   grading_of_moves = record {
     columns = g.columns;
     positive = g.positive;
@@ -68,7 +68,7 @@ reduced_of_others s m r = record {
   difference = r.difference;
 }
 
-pub basis_of_others : {n : ℕ} {rows others : List (List ℤ)} {w : List ℤ} {moves : List (List ℤ)} → SameLattice n rows others → IsReducedBasis n rows w moves → IsReducedBasis n others w moves
+pub basis_of_others : {n : ℕ} {rows others : List (List ℤ)} {w : List ℤ} {moves : List (List ℤ)} → SameLattice n rows others → IsReducedBasis (lattice_of n rows w) moves → IsReducedBasis (lattice_of n others w) moves
 basis_of_others {n} {rows} {others} {w} {moves} s b = record {
   ascending = b.ascending;
   each = All-weaker (IsReducedMove n rows) (IsReducedMove n others) (reduced_of_others s) moves b.each;

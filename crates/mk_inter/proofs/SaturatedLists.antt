@@ -5,7 +5,7 @@ use Rattle.std.proofs.lemmas.Int.{ints}
 use Rattle.std.proofs.lemmas.List.{get_or_default}
 use Rattle.std.proofs.lemmas.List.Elements.{All-contains}
 use Rattle.mk_model.specs.Vectors.{subtract, IsPoint}
-use Rattle.mk_model.specs.Lattices.{InLattice, IsGrading}
+use Rattle.mk_model.specs.Lattices.{lattice_of, InLattice, HasGrading}
 use Rattle.mk_model.specs.Walks.{Members}
 use Rattle.mk_model.specs.Orders.{IsOriented, standard, lead}
 use Rattle.mk_model.specs.Bases.{IsMarkov, IsMove}
@@ -23,7 +23,7 @@ use Rattle.mk_model.proofs.NormalForms.{descent_or_none, irreducible_is_least}
 
 -- moves of a lattice, a Markov basis of it, completed along the standard list, of which none is redundant
 pub record AreSaturated (n : ℕ) (rows : List (List ℤ)) (w : List ℤ) (moves : List (List ℤ)) : Type 0 where
-  pub oriented : AreOrientedMoves n rows w (standard n) moves
+  pub oriented : AreOrientedMoves (lattice_of n rows w) (standard n) moves
   pub joined : EveryPairJoined n (standard n) moves
   pub markov : IsMarkov n rows moves
   pub apart : NoneRedundant moves
@@ -33,7 +33,7 @@ pub same_from_divisors : {n : ℕ} {x y : List ℤ} → IsPoint n x → IsPoint 
 same_from_divisors {x = x} {y = y} p q d e = same_vectors x y (p.columns ∙ sym q.columns) (λ c. omega (arith, ints, d.entries c, e.entries c))
 
 module _ {n : ℕ} {rows : List (List ℤ)} {w : List ℤ} {moves : List (List ℤ)} (s : AreSaturated n rows w moves) where
-  abbrev grading : IsGrading n rows w
+  abbrev grading : HasGrading (lattice_of n rows w)
   grading = s.oriented.grading
 
   pub member_move : (v : List ℤ) → Contains moves v → IsMove n rows v

@@ -16,7 +16,7 @@ use Rattle.mk_model.proofs.OrderLaws.{IsOriented-not_zero}
 use Rattle.mk_model.proofs.Confluence.{reaches_append}
 use Rattle.mk_model.proofs.MoveLaws.{IsMove-columns}
 use Rattle.mk_move.specs.Moves.{Weighed}
-use Rattle.mk_move.specs.MoveLists.{TheBasis, vectors_of}
+use Rattle.mk_move.specs.MoveLists.{BasisView, vectors_of}
 use Rattle.mk_move.specs.Steps.{minus_times, TakesOff, IsOverflow}
 use Rattle.mk_move.specs.declared.steps.OverflowAt.{OverflowAt}
 use Rattle.mk_move.specs.declared.steps.StepFault.{StepFault}
@@ -42,13 +42,13 @@ added : (r v : List ℤ) (times : ℤ) (k : ℕ) → times ≡ neg_ℤ (pos k) �
 added r v times k e =
     ap (λ t. subtract r (scale t v)) e ∙ ap (subtract r) (sym (negate-scale (pos k) v)) ∙ sym (add-negate r (negate (scale (pos k) v))) ∙ ap (add r) (negate-negate (scale (pos k) v))
 
-pub has_lead : (basis : TheBasis) (index : ℕ) (m : Weighed) → IsSaturated basis → HasTailReduced basis index m → HasLeadOf (length basis.grading) (vectors_of basis.moves) (move_at (vectors_of basis.moves) index) m.entries
+pub has_lead : (basis : BasisView) (index : ℕ) (m : Weighed) → IsSaturated basis → HasTailReduced basis index m → HasLeadOf (length basis.grading) (vectors_of basis.moves) (move_at (vectors_of basis.moves) index) m.entries
 has_lead basis index m s h = record {
   move = record { in_lattice = h.in_lattice; oriented = subst (λ p. IsOriented p m.entries) s.standard_list h.belongs.oriented };
   same_lead = h.same_lead;
 }
 
-module _ (basis : TheBasis) (s : IsSaturated basis) (index place : ℕ) (rest by : Weighed) (step : IsTailStep basis index place rest) (at : slice_get basis.moves place ≡ Some by) (times : ℤ) (taken : IsTimesAdded by.entries rest.entries times) where
+module _ (basis : BasisView) (s : IsSaturated basis) (index place : ℕ) (rest by : Weighed) (step : IsTailStep basis index place rest) (at : slice_get basis.moves place ≡ Some by) (times : ℤ) (taken : IsTimesAdded by.entries rest.entries times) where
   abbrev rows : List (List ℤ)
   rows = vectors_of basis.moves
 
@@ -117,7 +117,7 @@ pub taken_off : (x y : List ℤ) {w others : List ℤ} {times read : ℤ} {resul
 taken_off x y {w} {others} {times} {read} {result} {known} e f g h =
     subst (λ t. TakesOff x t y w known) e (subst (λ v. TakesOff x read y v known) f (subst (TakesOff x read y others) g h))
 
-pub step_smaller : (basis : TheBasis) (index : ℕ) (rest next : Weighed) → IsSaturated basis → HasTailReduced basis index rest → HasTailReduced basis index next → IsBelow (standard (length basis.grading)) (tail next.entries) (tail rest.entries) →
+pub step_smaller : (basis : BasisView) (index : ℕ) (rest next : Weighed) → IsSaturated basis → HasTailReduced basis index rest → HasTailReduced basis index next → IsBelow (standard (length basis.grading)) (tail next.entries) (tail rest.entries) →
     tail_rank (length basis.grading) basis.grading next.entries < tail_rank (length basis.grading) basis.grading rest.entries
 step_smaller basis index rest next s h k b =
     tail_falls (saturated_list basis s) (move_at (vectors_of basis.moves) index) rest.entries next.entries (has_lead basis index rest s h) (has_lead basis index next s k) b

@@ -7,18 +7,18 @@ use Rattle.mk_model.specs.Orders.{lead, tail}
 use Rattle.mk_model.specs.Reductions.{Divides, TailReduct}
 use Rattle.mk_model.specs.ReducedBases.{IsReducedMove}
 use Rattle.mk_move.specs.Moves.{Weighed, IsBefore}
-use Rattle.mk_move.specs.MoveLists.{TheBasis, BelongsTo, vectors_of}
+use Rattle.mk_move.specs.MoveLists.{BasisView, BelongsTo, vectors_of}
 
 -- A move that belongs to the basis and is in the lattice that it spans. It has the lead of the move of an index, and steps on
 -- the tail lead to it from that move.
-pub record HasTailReduced (basis : TheBasis) (index : ℕ) (m : Weighed) : Type 0 where
+pub record HasTailReduced (basis : BasisView) (index : ℕ) (m : Weighed) : Type 0 where
   pub belongs : BelongsTo basis.priority basis.grading m
   pub in_lattice : InLattice (length basis.grading) (vectors_of basis.moves) m.entries
   pub same_lead : lead m.entries ≡ lead (move_at (vectors_of basis.moves) index)
   pub reached : TailReduct (vectors_of basis.moves) (move_at (vectors_of basis.moves) index) m.entries
 
 -- a step on the tail by the move of a place, whose lead divides it
-pub record IsTailStep (basis : TheBasis) (index place : ℕ) (m : Weighed) : Type 0 where
+pub record IsTailStep (basis : BasisView) (index place : ℕ) (m : Weighed) : Type 0 where
   pub of_list : index < length basis.moves
   pub within : place < length basis.moves
   pub divides : Divides (lead (move_at (vectors_of basis.moves) place)) (tail m.entries)
@@ -33,7 +33,7 @@ pub record IsTimesAdded (v r : List ℤ) (times : ℤ) : Type 0 where
   pub greatest : (q : ℕ) → Divides (scale (pos q) (lead v)) (tail r) → q ≤ count
 
 -- the move of the reduced basis that has the lead of a vector
-pub record IsReducedFrom (basis : TheBasis) (v : List ℤ) (m : Weighed) : Type 0 where
+pub record IsReducedFrom (basis : BasisView) (v : List ℤ) (m : Weighed) : Type 0 where
   pub belongs : BelongsTo basis.priority basis.grading m
   pub same_lead : lead m.entries ≡ lead v
   pub reduced : IsReducedMove (length basis.grading) (vectors_of basis.moves) m.entries

@@ -2,7 +2,7 @@ ghost use Rattle.std.specs.Prelude.{◌≡◌, ◌<◌, ◌^◌, IfOk, IfErr, le
 ghost use Rattle.std.specs.List.{AllZip};
 ghost use Rattle.mk_model.specs.Lattices.{SameLattice};
 ghost use Rattle.mk_model.specs.ReducedBases.{IsReducedBasis};
-ghost use Rattle.mk_move.specs.MoveLists.{BelongsTo, vectors_of};
+ghost use Rattle.mk_move.specs.MoveLists.{lattice_spanned, BelongsTo, vectors_of};
 ghost use Rattle.mk_reduce.specs.Leads.{leads_of};
 ghost use Rattle.mk_core.specs.SaturatedBases.{IsSaturated};
 ghost use Rattle.mk_inter.specs.Tails.{IsReducedList, IsTailFault};
@@ -70,10 +70,10 @@ pub struct ReducedBasis {
 }
 
 impl Model for ReducedBasis {
-    ghost use Rattle.mk_move.specs.MoveLists.{TheBasis};
+    ghost use Rattle.mk_move.specs.MoveLists.{BasisView};
     ghost use Rattle.mk_inter.specs.Tails.{IsReducedList};
 
-    ghost Value = { TheBasis };
+    ghost Value = { BasisView };
 
     ghost view = { λ r. r.basis };
 
@@ -93,7 +93,7 @@ impl ReducedBasis {
 /// The reduced basis of the lattice: each tail of a move is replaced by the least vector of its fibre, and the moves ascend by
 /// move order. (Sturmfels, chapter 1: the reduced basis)
 pub fn reduce_tails(alloc: Global, basis: &SaturatedBasis) -> Result<ReducedBasis, TailFault>
-    ensures reduced { IfOk result (λ reduced. IsReducedBasis (length basis.now.grading) (vectors_of basis.now.moves) basis.now.grading (vectors_of reduced.moves)) }
+    ensures reduced { IfOk result (λ reduced. IsReducedBasis (lattice_spanned basis.now) (vectors_of reduced.moves)) }
     ensures lattice { IfOk result (λ reduced. SameLattice (length basis.now.grading) (vectors_of basis.now.moves) (vectors_of reduced.moves)) }
     ensures grading { IfOk result (λ reduced. reduced.grading ≡ basis.now.grading) }
     ensures kept { IfOk result IsReducedList }

@@ -6,7 +6,7 @@ use Rattle.mk_model.specs.Events.{IsClaim, with_claim}
 use Rattle.mk_model.specs.Events.Event.{Claims}
 use Rattle.mk_model.proofs.LegalEvents.{events_keep}
 use Rattle.mk_ledger.specs.PairFlags.{pairs_of, pair_number}
-use Rattle.mk_ledger.specs.Ledgers.{TheLedger, IsLedger, AreInOrder}
+use Rattle.mk_ledger.specs.Ledgers.{LedgerView, IsLedger, AreInOrder}
 use Rattle.mk_ledger.specs.LedgerFields.{ledger_of, AreFields}
 use Rattle.mk_ledger.specs.declared.ledger.Ledger.TheInside.{Inside}
 use Rattle.mk_ledger.specs.Claims.{IsGiven}
@@ -19,7 +19,7 @@ pub record IsNextPair (state : CoreState) (pair : Pair) : Type 0 where
   pub ordered : pair.first < pair.second
   pub number_is : pair_number pair.first pair.second ≡ state.claims_made
 
-module _ {ledger : TheLedger} (kept : IsLedger ledger) (order : AreInOrder ledger.state) {worker : ℕ} (may : MayClaim ledger.state worker) {pair : Pair} (next : IsNextPair ledger.state pair) where
+module _ {ledger : LedgerView} (kept : IsLedger ledger) (order : AreInOrder ledger.state) {worker : ℕ} (may : MayClaim ledger.state worker) {pair : Pair} (next : IsNextPair ledger.state pair) where
   of_basis : IsPairOf ledger.state.basis pair
   of_basis = record {
     ordered = next.ordered;
@@ -46,7 +46,7 @@ module _ {ledger : TheLedger} (kept : IsLedger ledger) (order : AreInOrder ledge
   order_kept = claim_in_order order worker pair (omega (arith, may.within, kept.legal.claims_by_workers)) may.no_halt may.idle of_basis next.number_is
 
 -- there are no more pairs than of 65,536 moves
-pub few_pairs : {ledger : TheLedger} → IsLedger ledger → pairs_of (length ledger.state.basis) ≤ pairs_of 65536
+pub few_pairs : {ledger : LedgerView} → IsLedger ledger → pairs_of (length ledger.state.basis) ≤ pairs_of 65536
 few_pairs {ledger = ledger} kept = pairs_of_least (length ledger.state.basis) 65536 (omega (arith, kept.limit, kept.legal.basis_within))
 
 -- the fields after a claim

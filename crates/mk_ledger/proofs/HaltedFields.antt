@@ -5,13 +5,13 @@ use Rattle.std.specs.Option.{is_some, option_or}
 use Rattle.std.proofs.lemmas.List.{get_or_default}
 use mir.Val.{bool_byte}
 use Rattle.mk_model.specs.CoreStates.{Pair, Halt, CoreState, claim_of, halt_of}
-use Rattle.mk_model.specs.Events.{IsCause, IsHalting, with_halt, given_up, first_of}
+use Rattle.mk_model.specs.Events.{IsHaltCause, IsHalting, with_halt, given_up, first_of}
 use Rattle.mk_model.specs.Events.Event.{Halts}
 use Rattle.mk_model.specs.Legal.{IsLegal}
 use Rattle.mk_model.proofs.LegalEvents.{events_keep}
 use Rattle.mk_ledger.specs.declared.ledger.Ledger.TheInside.{Inside}
 use Rattle.mk_ledger.specs.PairFlags.{pairs_of}
-use Rattle.mk_ledger.specs.Ledgers.{TheLedger, AreFlagged, AreInOrder}
+use Rattle.mk_ledger.specs.Ledgers.{LedgerView, AreFlagged, AreInOrder}
 use Rattle.mk_ledger.specs.LedgerFields.{ledger_of, AreFields}
 use Rattle.mk_ledger.proofs.PairNumbers.{pairs_of_least}
 use Rattle.mk_ledger.proofs.Haltings.{halt_keeps_order, halt_keeps_flags}
@@ -29,7 +29,7 @@ all_pairs_few : pairs_of 65536 < 2 ^ 64
 unfolding pairs_of
 all_pairs_few = omega arith
 
-module _ (fields : Inside) (kept : AreFields fields) (ledger : TheLedger) (seen : ledger_of fields ≡ ledger) (worker : ℕ) (halt : Halt) (within : worker < ledger.state.workers) (no_halt : halt_of ledger.state worker ≡ None) (cause : IsCause ledger.state worker halt) where
+module _ (fields : Inside) (kept : AreFields fields) (ledger : LedgerView) (seen : ledger_of fields ≡ ledger) (worker : ℕ) (halt : Halt) (within : worker < ledger.state.workers) (no_halt : halt_of ledger.state worker ≡ None) (cause : IsHaltCause ledger.state worker halt) where
   abbrev state : CoreState
   state = (ledger_of fields).state
 

@@ -9,7 +9,7 @@ use Rattle.mk_model.specs.Legal.{IsLegal, IsEnded}
 use Rattle.mk_model.proofs.LegalEvents.{written}
 use Rattle.mk_ledger.specs.PairFlags.{pairs_of, pair_number}
 use Rattle.mk_ledger.specs.Ledgers.{number_of, AreFlagged, AreAllTaken, IsOneLeft, AreInOrder}
-use Rattle.mk_ledger.specs.Claims.{IsNotYet, IsOverBudget}
+use Rattle.mk_ledger.specs.Claims.{IsNotYet, ClaimIsOverBudget}
 use Rattle.mk_ledger.proofs.PairNumbers.{pairs_of_more, pairs_of_none, number_below, number_of_less, number_of_one}
 
 -- each number below the count of pairs is that of a pair
@@ -104,7 +104,7 @@ module _ {state : CoreState} (order : AreInOrder state) where
   }
 
   pub over_budget : {n : ℕ} {priority : List ℕ} → IsLegal n priority state → state.first_halted ≡ None → state.claims_made < pairs_of (length state.basis) →
-      state.budget ≤ state.claims_made → IsOverBudget state state.claims_made
+      state.budget ≤ state.claims_made → ClaimIsOverBudget state state.claims_made
   over_budget legal no_halt left l = record {
     all = refl;
     used_up = omega (arith, l, legal.claims_within);

@@ -11,19 +11,19 @@ use Rattle.mk_model.specs.Events.{IsPlaced, with_entry, IsSettling}
 use Rattle.mk_model.specs.Events.Event.{Settles}
 use Rattle.mk_model.proofs.LegalEvents.{events_keep}
 use Rattle.mk_move.specs.Moves.{Weighed}
-use Rattle.mk_move.specs.MoveLists.{TheBasis, BelongsTo, IsBasis, vectors_of}
+use Rattle.mk_move.specs.MoveLists.{BasisView, BelongsTo, IsBasis, vectors_of}
 use Rattle.mk_ledger.specs.declared.ledger.Ledger.TheInside.{Inside}
 use Rattle.mk_ledger.specs.declared.journal.JournalEntry.{JournalEntry}
 use Rattle.mk_ledger.specs.PairFlags.{PairFlags, pair_number}
 use Rattle.mk_ledger.specs.Entries.{settle_of}
-use Rattle.mk_ledger.specs.Ledgers.{TheLedger, number_of, AreFlagged, AreInOrder}
+use Rattle.mk_ledger.specs.Ledgers.{LedgerView, number_of, AreFlagged, AreInOrder}
 use Rattle.mk_ledger.specs.LedgerFields.{ledger_of, AreFields}
-use Rattle.mk_ledger.specs.Settlings.{IsReductOfClaim, with_move, IsPlacedLast, IsGrown}
+use Rattle.mk_ledger.specs.Settlings.{IsReductOfClaim, with_placed, IsPlacedLast, IsGrown}
 use Rattle.mk_ledger.proofs.Settlings.{entry_keeps_order, entry_keeps_flags, move_keeps_flags, pair_below}
 use Rattle.mk_ledger.proofs.SettledFields.{with_settled, settled_state, claim_of_basis}
 
 -- a basis with one move more that belongs to it
-pub one_more_move : (basis : TheBasis) (m : Weighed) → IsBasis basis → BelongsTo basis.priority basis.grading m → length basis.moves < 65536 → IsBasis (with_move basis m)
+pub one_more_move : (basis : BasisView) (m : Weighed) → IsBasis basis → BelongsTo basis.priority basis.grading m → length basis.moves < 65536 → IsBasis (with_placed basis m)
 one_more_move basis m h belongs few = record {
   priority = h.priority;
   grading = h.grading;
@@ -47,7 +47,7 @@ module _ (fields : Inside) (kept : AreFields fields) (worker : ℕ) (m : Weighed
   flags = record { moves = fields.settled.moves + 1; flags = set fields.settled.flags (number_of claim.pair) true ++ replicate fields.settled.moves false }
 
   abbrev after : Inside
-  after = with_settled fields (with_move fields.basis m) flags entry worker
+  after = with_settled fields (with_placed fields.basis m) flags entry worker
 
   count : length state.basis ≡ length fields.basis.moves
   count = length-map fields.basis.moves (λ (m : Weighed). m.entries)
@@ -67,7 +67,7 @@ module _ (fields : Inside) (kept : AreFields fields) (worker : ℕ) (m : Weighed
 
   changed : (ledger_of after).state ≡ with_entry state worker claim.pair (Place place) moves
   changed =
-      settled_state fields (with_move fields.basis m) flags entry worker claim.pair (Place place) same
+      settled_state fields (with_placed fields.basis m) flags entry worker claim.pair (Place place) same
       ∙ ap (λ ms. with_entry state worker claim.pair (Place place) ms) (vectors_more fields.basis.moves m)
 
   settles : IsSettling (length fields.basis.grading) fields.basis.priority state worker (Place place) (ledger_of after).state
@@ -116,21 +116,21 @@ module _ (fields : Inside) (kept : AreFields fields) (worker : ℕ) (m : Weighed
 
 -- ---- by the ledger that is seen, and what the code leaves
 -- a move that is to be placed, and the pair that the worker holds
-pub record IsToBePlaced (ledger : TheLedger) (worker : ℕ) (m : Weighed) (held : Pair) : Type 0 where
+pub record IsToBePlaced (ledger : LedgerView) (worker : ℕ) (m : Weighed) (held : Pair) : Type 0 where
   pub claim : IsReductOfClaim ledger.state worker (length ledger.basis.moves) m.entries
   pub belongs : BelongsTo ledger.basis.priority ledger.basis.grading m
   pub room : length ledger.basis.moves < ledger.state.limit
   pub claimed : claim_of ledger.state worker ≡ Some held
 
 -- the place, the entry, and the journal, the moves and the flags afterwards
-pub record AreWritten (fields : Inside) (worker : ℕ) (m : Weighed) (held : Pair) (place i j : ℕ) (entry : JournalEntry) (journal : List JournalEntry) (basis : TheBasis) (grown settled : PairFlags) : Type 0 where
+pub record AreWritten (fields : Inside) (worker : ℕ) (m : Weighed) (held : Pair) (place i j : ℕ) (entry : JournalEntry) (journal : List JournalEntry) (basis : BasisView) (grown settled : PairFlags) : Type 0 where
   pub at_end : place ≡ length fields.basis.moves
   pub entry_is : settle_of entry ≡ settle worker held (Place place)
   pub pushed : (journal ≡ fields.journal ++ entry ∷ []) × IsGrown fields.basis fields.settled m basis grown
   pub held_is : pair_of i j ≡ held
   pub marked : settled ≡ record { moves = grown.moves; flags = set grown.flags (pair_number i j) true }
 
-module _ (fields : Inside) (kept : AreFields fields) (ledger : TheLedger) (seen : ledger_of fields ≡ ledger) (worker : ℕ) (m : Weighed) (held : Pair) (given : IsToBePlaced ledger worker m held) (place i j : ℕ) (entry : JournalEntry) (journal : List JournalEntry) (basis : TheBasis) (grown settled : PairFlags) (written : AreWritten fields worker m held place i j entry journal basis grown settled) where
+module _ (fields : Inside) (kept : AreFields fields) (ledger : LedgerView) (seen : ledger_of fields ≡ ledger) (worker : ℕ) (m : Weighed) (held : Pair) (given : IsToBePlaced ledger worker m held) (place i j : ℕ) (entry : JournalEntry) (journal : List JournalEntry) (basis : BasisView) (grown settled : PairFlags) (written : AreWritten fields worker m held place i j entry journal basis grown settled) where
   abbrev changed_fields : Inside
   changed_fields = record fields { basis = basis; settled = settled; journal = journal; claims = with_item fields.claims worker None }
 
@@ -154,7 +154,7 @@ module _ (fields : Inside) (kept : AreFields fields) (ledger : TheLedger) (seen 
   changed_is : fields_after ≡ changed_fields
   changed_is =
       sym (ap (λ b. record fields { basis = b; settled = settled; journal = journal; claims = with_item fields.claims worker None }) written.pushed.1.moves
-      ∙ ap (λ s. record fields { basis = with_move fields.basis m; settled = s; journal = journal; claims = with_item fields.claims worker None }) flags_written
+      ∙ ap (λ s. record fields { basis = with_placed fields.basis m; settled = s; journal = journal; claims = with_item fields.claims worker None }) flags_written
       ∙ ap (λ l. record fields_after { journal = l }) written.pushed.0)
 
   pub place_keeps : AreFields changed_fields

@@ -11,23 +11,23 @@ use Rattle.mk_model.specs.CoreStates.Way.{Zero}
 use Rattle.mk_model.specs.Events.{with_entry, IsSettling}
 use Rattle.mk_model.specs.Events.Event.{Settles}
 use Rattle.mk_model.proofs.LegalEvents.{within_list, events_keep}
-use Rattle.mk_move.specs.MoveLists.{TheBasis, vectors_of}
+use Rattle.mk_move.specs.MoveLists.{BasisView, vectors_of}
 use Rattle.mk_ledger.specs.declared.ledger.Ledger.TheInside.{Inside}
 use Rattle.mk_ledger.specs.declared.journal.JournalEntry.{JournalEntry}
 use Rattle.mk_ledger.specs.PairFlags.{PairFlags, pair_number}
 use Rattle.mk_ledger.specs.Entries.{settle_of, settles_of}
-use Rattle.mk_ledger.specs.Ledgers.{TheLedger, number_of, AreFlagged, AreInOrder}
+use Rattle.mk_ledger.specs.Ledgers.{LedgerView, number_of, AreFlagged, AreInOrder}
 use Rattle.mk_ledger.specs.LedgerFields.{ledger_of, AreFields}
 use Rattle.mk_ledger.specs.Settlings.{IsZeroClaim, AreSmall}
 use Rattle.mk_ledger.proofs.Settlings.{entry_keeps_order, entry_keeps_flags}
 
 -- the fields with an entry at the journal's end and no claim of the worker
-abbrev pub with_settled : Inside → TheBasis → PairFlags → JournalEntry → ℕ → Inside
+abbrev pub with_settled : Inside → BasisView → PairFlags → JournalEntry → ℕ → Inside
 with_settled fields basis settled entry worker =
     record fields { basis = basis; settled = settled; journal = fields.journal ++ entry ∷ []; claims = with_item fields.claims worker None }
 
 -- the state that they are seen as
-pub settled_state : (fields : Inside) (basis : TheBasis) (settled : PairFlags) (entry : JournalEntry) (worker : ℕ) (pair : Pair) (way : Way) → settle_of entry ≡ settle worker pair way →
+pub settled_state : (fields : Inside) (basis : BasisView) (settled : PairFlags) (entry : JournalEntry) (worker : ℕ) (pair : Pair) (way : Way) → settle_of entry ≡ settle worker pair way →
     (ledger_of (with_settled fields basis settled entry worker)).state ≡ with_entry (ledger_of fields).state worker pair way (vectors_of basis.moves)
 settled_state fields basis settled entry worker pair way e =
     ap (λ j. record (ledger_of fields).state { basis = vectors_of basis.moves; journal = j; claims = set fields.claims.items worker None })
@@ -102,7 +102,7 @@ module _ (fields : Inside) (kept : AreFields fields) (worker : ℕ) (claim : IsZ
   }
 
 -- by the ledger that is seen, the pair that is held, and what the journal and the flags are afterwards
-module _ (fields : Inside) (kept : AreFields fields) (ledger : TheLedger) (seen : ledger_of fields ≡ ledger) (worker : ℕ) (claim : IsZeroClaim (length ledger.basis.grading) ledger.state worker) (held : Pair) (claimed : claim_of ledger.state worker ≡ Some held) (entry : JournalEntry) (same : settle_of entry ≡ settle worker held Zero) (journal : List JournalEntry) (settled : PairFlags) (pushed : journal ≡ fields.journal ++ entry ∷ []) where
+module _ (fields : Inside) (kept : AreFields fields) (ledger : LedgerView) (seen : ledger_of fields ≡ ledger) (worker : ℕ) (claim : IsZeroClaim (length ledger.basis.grading) ledger.state worker) (held : Pair) (claimed : claim_of ledger.state worker ≡ Some held) (entry : JournalEntry) (same : settle_of entry ≡ settle worker held Zero) (journal : List JournalEntry) (settled : PairFlags) (pushed : journal ≡ fields.journal ++ entry ∷ []) where
   abbrev changed_fields : Inside
   changed_fields = record fields { journal = journal; settled = settled; claims = with_item fields.claims worker None }
 

@@ -15,7 +15,7 @@ pub record IsNotYet (state : CoreState) (holder : ℕ) (pair : Pair) : Type 0 wh
   pub least : (other : Pair) → IsPairOf state.basis other → ¬ (IsSettled state.journal other) → ¬ (IsLesser other pair)
 
 -- A pair is free, as many claims were made as the budget has, and none of them was given up.
-pub record IsOverBudget (state : CoreState) (made : ℕ) : Type 0 where
+pub record ClaimIsOverBudget (state : CoreState) (made : ℕ) : Type 0 where
   pub all : made ≡ state.claims_made
   pub used_up : state.claims_made ≡ state.budget
   pub none_given_up : state.claims_given_up ≡ 0
@@ -28,9 +28,9 @@ pub record IsGiven (state : CoreState) (worker : ℕ) (pair : Pair) (after : Cor
   pub changed : after ≡ with_claim state worker pair
 
 -- the answer, and the state afterwards: it is another one only where a pair was claimed
-abbrev pub IsAnswered : CoreState → ℕ → Claim → CoreState → Type 0
-IsAnswered state worker (Stopped other) after = (state.first_halted ≡ Some other) × (after ≡ state)
-IsAnswered state worker Ended after = (state.first_halted ≡ None) × IsEnded state × (after ≡ state)
-IsAnswered state worker (NotYet other i j) after = (state.first_halted ≡ None) × IsNotYet state other (pair_of i j) × (after ≡ state)
-IsAnswered state worker (OverBudget made) after = (state.first_halted ≡ None) × IsOverBudget state made × (after ≡ state)
-IsAnswered state worker (Claimed i j) after = IsGiven state worker (pair_of i j) after
+abbrev pub AnswersClaim : CoreState → ℕ → Claim → CoreState → Type 0
+AnswersClaim state worker (Stopped other) after = (state.first_halted ≡ Some other) × (after ≡ state)
+AnswersClaim state worker Ended after = (state.first_halted ≡ None) × IsEnded state × (after ≡ state)
+AnswersClaim state worker (NotYet other i j) after = (state.first_halted ≡ None) × IsNotYet state other (pair_of i j) × (after ≡ state)
+AnswersClaim state worker (OverBudget made) after = (state.first_halted ≡ None) × ClaimIsOverBudget state made × (after ≡ state)
+AnswersClaim state worker (Claimed i j) after = IsGiven state worker (pair_of i j) after

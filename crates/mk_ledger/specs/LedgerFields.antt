@@ -2,10 +2,10 @@
 use Rattle.std.specs.Prelude.{◌≡◌, length}
 use Rattle.mk_move.specs.MoveLists.{vectors_of}
 use Rattle.mk_ledger.specs.Entries.{settles_of}
-use Rattle.mk_ledger.specs.Ledgers.{TheLedger, IsLedger, AreFlagged, AreInOrder}
+use Rattle.mk_ledger.specs.Ledgers.{LedgerView, IsLedger, AreFlagged, AreInOrder}
 use Rattle.mk_ledger.specs.declared.ledger.Ledger.TheInside.{Inside}
 
-abbrev pub ledger_of : Inside → TheLedger
+abbrev pub ledger_of : Inside → LedgerView
 ledger_of fields = record {
   basis = fields.basis;
   state = record {

@@ -2,16 +2,16 @@
 use Rattle.std.specs.Prelude.{◌≡◌, ◌≢◌, ◌⊎◌, ◌↔◌, ℕ, ◌<◌, ◌≤◌, Bool, true, false, List, length, get_or, None}
 use Rattle.mk_model.specs.CoreStates.{Pair, CoreState, IsPairOf, IsSettled, IsClaimed, IsFree}
 use Rattle.mk_model.specs.Legal.{IsLegal}
-use Rattle.mk_move.specs.MoveLists.{TheBasis, IsBasis, vectors_of}
+use Rattle.mk_move.specs.MoveLists.{BasisView, IsBasis, vectors_of}
 use Rattle.mk_ledger.specs.PairFlags.{pairs_of, pair_number}
 
 -- the moves with their weights, list and grading, and the core state over their vectors
-pub record TheLedger : Type 0 where
-  pub basis : TheBasis
+pub record LedgerView : Type 0 where
+  pub basis : BasisView
   pub state : CoreState
 
 -- The basis's vectors are those of the state, which is legal, and the sizes are within their bounds.
-pub record IsLedger (ledger : TheLedger) : Type 0 where
+pub record IsLedger (ledger : LedgerView) : Type 0 where
   pub basis : IsBasis ledger.basis
   pub moves : ledger.state.basis ≡ vectors_of ledger.basis.moves
   pub legal : IsLegal (length ledger.basis.grading) ledger.basis.priority ledger.state

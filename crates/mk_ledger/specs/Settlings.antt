@@ -7,11 +7,11 @@ use Rattle.mk_model.specs.CoreStates.Way.{Place}
 use Rattle.mk_model.specs.CoreStates.Halt.{Overflow, Full, Memory}
 use Rattle.mk_model.specs.Events.{IsSettling, IsFull, IsHalting}
 use Rattle.mk_move.specs.Moves.{Weighed}
-use Rattle.mk_move.specs.MoveLists.{TheBasis}
+use Rattle.mk_move.specs.MoveLists.{BasisView}
 use Rattle.mk_ledger.specs.declared.settles.PlaceFault.{PlaceFault}
 use Rattle.mk_ledger.specs.declared.settles.PlaceFault.TheVariants as fault
 use Rattle.mk_ledger.specs.PairFlags.{PairFlags, pairs_of}
-use Rattle.mk_ledger.specs.Ledgers.{TheLedger}
+use Rattle.mk_ledger.specs.Ledgers.{LedgerView}
 
 -- the claim of the worker, whose difference has the reduct 0
 pub record IsZeroClaim (n : ℕ) (state : CoreState) (worker : ℕ) : Type 0 where
@@ -43,15 +43,15 @@ NotFull Memory = Unit {0}
 
 -- ---- placing a move
 -- the moves with one more at the end
-abbrev pub with_move : TheBasis → Weighed → TheBasis
-with_move basis m = record basis { moves = basis.moves ++ m ∷ [] }
+abbrev pub with_placed : BasisView → Weighed → BasisView
+with_placed basis m = record basis { moves = basis.moves ++ m ∷ [] }
 
 -- The move is at the end of the basis, and the claim is settled by it.
-pub record IsPlacedLast (ledger : TheLedger) (worker front : ℕ) (m : Weighed) (place : ℕ) (after : TheLedger) : Type 0 where
+pub record IsPlacedLast (ledger : LedgerView) (worker front : ℕ) (m : Weighed) (place : ℕ) (after : LedgerView) : Type 0 where
   pub whole : front ≡ length ledger.basis.moves
   pub at_end : place ≡ length ledger.basis.moves
   pub settling : IsSettling (length ledger.basis.grading) ledger.basis.priority ledger.state worker (Place place) after.state
-  pub pushed : after.basis ≡ with_move ledger.basis m
+  pub pushed : after.basis ≡ with_placed ledger.basis m
 
 -- the worker halts, since the basis is full for its claim
 pub record HaltsFull (state : CoreState) (worker : ℕ) (after : CoreState) : Type 0 where
@@ -60,7 +60,7 @@ pub record HaltsFull (state : CoreState) (worker : ℕ) (after : CoreState) : Ty
   pub halting : IsHalting state worker (Full pair) after
 
 -- The answer, and the ledger afterwards: a move that isn't placed is handed back, but where the basis is full.
-abbrev pub IsPlacing : TheLedger → ℕ → ℕ → Weighed → Result ℕ PlaceFault → TheLedger → Type 0
+abbrev pub IsPlacing : LedgerView → ℕ → ℕ → Weighed → Result ℕ PlaceFault → LedgerView → Type 0
 IsPlacing ledger worker front m (Ok place) after = IsPlacedLast ledger worker front m place after
 IsPlacing ledger worker front m (Err (fault.Memory given)) after =
     (front ≡ length ledger.basis.moves) × (length ledger.basis.moves < ledger.state.limit) × (given ≡ m) × (after ≡ ledger)
@@ -83,6 +83,6 @@ pub record AreFlagsOf (moves : List Weighed) (settled : PairFlags) : Type 0 wher
   pub each : length settled.flags ≡ pairs_of settled.moves
 
 -- the move is at the end, and the flags of its pairs, which are clear, behind the others
-pub record IsGrown (basis : TheBasis) (settled : PairFlags) (m : Weighed) (basis_after : TheBasis) (settled_after : PairFlags) : Type 0 where
-  pub moves : basis_after ≡ with_move basis m
+pub record IsGrown (basis : BasisView) (settled : PairFlags) (m : Weighed) (basis_after : BasisView) (settled_after : PairFlags) : Type 0 where
+  pub moves : basis_after ≡ with_placed basis m
   pub flags : settled_after ≡ record { moves = settled.moves + 1; flags = settled.flags ++ replicate settled.moves false }

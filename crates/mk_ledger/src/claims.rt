@@ -1,7 +1,7 @@
 ghost use Rattle.std.specs.Prelude.{◌≡◌, ℕ, ◌+◌, ◌<◌, ◌≤◌, ◌↔◌, IsTrue, length, None, Some};
 ghost use Rattle.mk_model.specs.CoreStates.{claim_of, IsLesser};
 ghost use Rattle.mk_ledger.specs.PairFlags.{pairs_of};
-ghost use Rattle.mk_ledger.specs.Claims.{IsAnswered};
+ghost use Rattle.mk_ledger.specs.Claims.{AnswersClaim};
 ghost use Rattle.mk_ledger.specs.HeldClaims.{MayClaim, NoneHeld, IsLeastOf};
 
 use crate::claim::Claim;
@@ -14,7 +14,7 @@ impl Ledger {
     pub fn claim(&mut self, worker: u32) -> Claim
         requires within { worker < self.old.state.workers }
         requires idle { claim_of self.old.state worker ≡ None }
-        ensures answered { IsAnswered self.old.state worker result self.new.state }
+        ensures answered { AnswersClaim self.old.state worker result self.new.state }
         ensures basis { self.new.basis ≡ self.old.basis }
     {
         if let Some(other) = self.first {
@@ -34,7 +34,7 @@ impl Ledger {
     fn none_left(&self) -> Claim
         requires no_halt { self.now.state.first_halted ≡ None }
         requires all { pairs_of (length self.now.state.basis) ≤ self.now.state.claims_made }
-        ensures { (worker : ℕ) → IsAnswered self.now.state worker result self.now.state }
+        ensures { (worker : ℕ) → AnswersClaim self.now.state worker result self.now.state }
     {
         match least_claim(&self.claims) {
             Some((worker, held)) => Claim::NotYet {
@@ -49,7 +49,7 @@ impl Ledger {
     /// Gives the worker the next pair in their order, which is the least free one.
     fn give(&mut self, worker: u32) -> Claim
         requires { MayClaim self.old.state worker }
-        ensures answered { IsAnswered self.old.state worker result self.new.state }
+        ensures answered { AnswersClaim self.old.state worker result self.new.state }
         ensures basis { self.new.basis ≡ self.old.basis }
     {
         let (i, j) = self.next.pair();

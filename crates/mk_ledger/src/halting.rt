@@ -1,6 +1,6 @@
 ghost use Rattle.std.specs.Prelude.{◌≡◌, ◌<◌, None};
 ghost use Rattle.mk_model.specs.CoreStates.{halt_of};
-ghost use Rattle.mk_model.specs.Events.{IsCause, IsHalting};
+ghost use Rattle.mk_model.specs.Events.{IsHaltCause, IsHalting};
 ghost use Rattle.mk_ledger.specs.Halts.{halt_as};
 ghost use Rattle.mk_ledger.specs.Settlings.{NotFull};
 
@@ -13,7 +13,7 @@ impl Ledger {
     pub fn halt(&mut self, worker: u32, halt: Halt)
         requires worker { worker < self.old.state.workers }
         requires no_halt { halt_of self.old.state worker ≡ None }
-        requires cause { IsCause self.old.state worker (halt_as halt) }
+        requires cause { IsHaltCause self.old.state worker (halt_as halt) }
         requires not_full { NotFull (halt_as halt) }
         ensures halting { IsHalting self.old.state worker (halt_as halt) self.new.state }
         ensures basis { self.new.basis ≡ self.old.basis }
@@ -25,7 +25,7 @@ impl Ledger {
     pub(crate) fn keep_halt(&mut self, worker: u32, halt: Halt)
         requires worker { worker < self.old.state.workers }
         requires no_halt { halt_of self.old.state worker ≡ None }
-        requires cause { IsCause self.old.state worker (halt_as halt) }
+        requires cause { IsHaltCause self.old.state worker (halt_as halt) }
         ensures halting { IsHalting self.old.state worker (halt_as halt) self.new.state }
         ensures basis { self.new.basis ≡ self.old.basis }
     {

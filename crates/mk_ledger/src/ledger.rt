@@ -32,9 +32,9 @@ pub struct Ledger {
 impl Model for Ledger {
     ghost use Rattle.std.specs.Prelude.{◌≡◌, length};
     ghost use Rattle.mk_move.specs.MoveLists.{vectors_of};
-    ghost use Rattle.mk_ledger.specs.Ledgers.{TheLedger, IsLedger, AreFlagged, AreInOrder};
+    ghost use Rattle.mk_ledger.specs.Ledgers.{LedgerView, IsLedger, AreFlagged, AreInOrder};
 
-    ghost Value = { TheLedger };
+    ghost Value = { LedgerView };
 
     ghost use Rattle.mk_ledger.specs.LedgerFields.{ledger_of, AreFields};
 

@@ -5,7 +5,7 @@ use Rattle.std.proofs.lemmas.List.Elements.{All-contains, All-nil, All-push, All
 use Rattle.mk_model.specs.Orders.{lead, ComesBefore}
 use Rattle.mk_model.specs.CoreStates.{move_at}
 use Rattle.mk_model.specs.Bases.{IsAnswer}
-use Rattle.mk_model.specs.Lattices.{IsGrading}
+use Rattle.mk_model.specs.Lattices.{lattice_of, HasGrading}
 use Rattle.mk_model.specs.ReducedBases.{IsLeastOfComponent, IsReducedBasis}
 use Rattle.mk_model.proofs.Components.{answer_from_components}
 use Rattle.mk_minimise.specs.Stages.{StepsLighter, AreChosen}
@@ -24,7 +24,7 @@ module _ (n : ℕ) (w : List ℤ) (moves : List (List ℤ)) where
   pub chosen_begin : AreChosen n w moves 0 []
   chosen_begin = record {
     ascending = λ i j d l k. absurd (omega arith);
-    each = All-nil (λ m. Contains (take 0 moves) m × IsLeastOfComponent n moves w (lead m));
+    each = All-nil (λ m. Contains (take 0 moves) m × IsLeastOfComponent (lattice_of n moves w) (lead m));
     others = λ m (k, l, e). absurd (omega (arith, l, length-take 0 moves));
   }
 
@@ -44,8 +44,8 @@ module _ (n : ℕ) (w : List ℤ) (moves : List (List ℤ)) where
     split : (v : List ℤ) → Contains (take (count + 1) moves) v → Contains (take count moves) v ⊎ (m ≡ v)
     split v c = Contains-push_cases (take count moves) m v (subst (λ xs. Contains xs v) front_more c)
 
-    still : All (λ m. Contains (take (count + 1) moves) m × IsLeastOfComponent n moves w (lead m)) chosen
-    still = All-weaker (λ m. Contains (take count moves) m × IsLeastOfComponent n moves w (lead m)) (λ m. Contains (take (count + 1) moves) m × IsLeastOfComponent n moves w (lead m)) (λ v (c, l). (stays v c, l)) chosen so_far.each
+    still : All (λ m. Contains (take (count + 1) moves) m × IsLeastOfComponent (lattice_of n moves w) (lead m)) chosen
+    still = All-weaker (λ m. Contains (take count moves) m × IsLeastOfComponent (lattice_of n moves w) (lead m)) (λ m. Contains (take (count + 1) moves) m × IsLeastOfComponent (lattice_of n moves w) (lead m)) (λ v (c, l). (stays v c, l)) chosen so_far.each
 
     before : (v : List ℤ) → Contains (take count moves) v → ComesBefore n w v m
     before v (k, l, e) =
@@ -53,11 +53,11 @@ module _ (n : ℕ) (w : List ℤ) (moves : List (List ℤ)) where
         let same : move_at moves k ≡ v = sym (get_or-take count moves k [] small) ∙ get_or_default (take count moves) k [] v l ∙ e in
         subst (λ x. ComesBefore n w x m) same (ascending k count [] small within)
 
-    pub chosen_more : IsLeastOfComponent n moves w (lead m) → AreChosen n w moves (count + 1) (chosen ++ m ∷ [])
+    pub chosen_more : IsLeastOfComponent (lattice_of n moves w) (lead m) → AreChosen n w moves (count + 1) (chosen ++ m ∷ [])
     chosen_more least = record {
       ascending = AllPairs-push (ComesBefore n w) chosen m so_far.ascending
-          (λ v c. before v (All-contains (λ m. Contains (take count moves) m × IsLeastOfComponent n moves w (lead m)) chosen v so_far.each c).0);
-      each = All-push (λ m. Contains (take (count + 1) moves) m × IsLeastOfComponent n moves w (lead m)) chosen m still (here, least);
+          (λ v c. before v (All-contains (λ m. Contains (take count moves) m × IsLeastOfComponent (lattice_of n moves w) (lead m)) chosen v so_far.each c).0);
+      each = All-push (λ m. Contains (take (count + 1) moves) m × IsLeastOfComponent (lattice_of n moves w) (lead m)) chosen m still (here, least);
       others = λ v c. ⊎_elim (λ k. ⊎_elim (λ d. inl (Contains-append_left chosen (m ∷ []) v d)) inr (so_far.others v k)) (λ e. inl (subst (Contains (chosen ++ m ∷ [])) e (Contains-push chosen m))) (split v c);
     }
 
@@ -69,9 +69,9 @@ module _ (n : ℕ) (w : List ℤ) (moves : List (List ℤ)) where
     }
 
   -- ---- all of them
-  pub chosen_are_answer : IsGrading n moves w → IsReducedBasis n moves w moves → (count : ℕ) → length moves ≤ count → (chosen : List (List ℤ)) → AreChosen n w moves count chosen → IsAnswer n moves w chosen
+  pub chosen_are_answer : HasGrading (lattice_of n moves w) → IsReducedBasis (lattice_of n moves w) moves → (count : ℕ) → length moves ≤ count → (chosen : List (List ℤ)) → AreChosen n w moves count chosen → IsAnswer (lattice_of n moves w) chosen
   chosen_are_answer g basis count l chosen all =
       let whole : take count moves ≡ moves = take_all count moves l in
       answer_from_components g basis all.ascending
-      (All-weaker (λ m. Contains (take count moves) m × IsLeastOfComponent n moves w (lead m)) (λ m. Contains moves m × IsLeastOfComponent n moves w (lead m)) (λ v (c, f). (subst (λ xs. Contains xs v) whole c, f)) chosen all.each)
+      (All-weaker (λ m. Contains (take count moves) m × IsLeastOfComponent (lattice_of n moves w) (lead m)) (λ m. Contains moves m × IsLeastOfComponent (lattice_of n moves w) (lead m)) (λ v (c, f). (subst (λ xs. Contains xs v) whole c, f)) chosen all.each)
       (λ m c. ⊎_elim inl (λ s. inr (s.lower, s.below, s.joined)) (all.others m (subst (λ xs. Contains xs m) (sym whole) c)))

@@ -4,7 +4,7 @@ use Rattle.std.proofs.lemmas.Int.{ints}
 use Rattle.std.proofs.lemmas.List.{map-append}
 use Rattle.std.proofs.lemmas.List.Elements.{All-nil, All-push, All-weaker, All-contains, Contains-append_left, Contains-append_right, Contains-append_cases, Contains-push}
 use Rattle.mk_model.specs.CoreStates.{move_at, pair_of, difference}
-use Rattle.mk_model.specs.Lattices.{IsGrading}
+use Rattle.mk_model.specs.Lattices.{lattice_of, HasGrading}
 use Rattle.mk_model.specs.Orders.{IsOriented, standard, lead}
 use Rattle.mk_model.specs.Pairs.{AreOrientedMoves, JoinedBelow}
 use Rattle.mk_model.specs.Reductions.{lcm, Reduct}
@@ -17,7 +17,7 @@ use Rattle.mk_model.proofs.Divisors.{lcm-comm}
 use Rattle.mk_model.proofs.Confluence.{JoinedBelow-same, JoinedBelow-swap}
 use Rattle.mk_model.proofs.Reducts.{joined_below_weaker, joined_by_disjoint, reduct_weaker}
 use Rattle.mk_move.specs.Moves.{Weighed}
-use Rattle.mk_move.specs.MoveLists.{TheBasis, BelongsTo, vectors_of}
+use Rattle.mk_move.specs.MoveLists.{BasisView, BelongsTo, vectors_of}
 use Rattle.mk_move.specs.declared.side.Side.TheVariants.{Plus, Minus}
 use Rattle.mk_reduce.proofs.Beginnings.{length-vectors_of}
 use Rattle.mk_inter.specs.Tails.{IsReducedList}
@@ -33,17 +33,17 @@ use Rattle.mk_minimise.proofs.LinkChains.{something, steps_reduce, chain, links_
 use Rattle.mk_minimise.proofs.LowerFronts.{list_grading, member_at, lower_at, lower_has, lower_place, lower_part, overlap_is_lower, pair_weighs}
 
 -- the pair's moves are joined below, by lower moves and links
-abbrev pub PairJoined : TheBasis → TheBasis → List Weighed → Overlap → Type 0
+abbrev pub PairJoined : BasisView → BasisView → List Weighed → Overlap → Type 0
 PairJoined basis lower links pair =
     JoinedBelow (length basis.grading) (standard (length basis.grading)) (vectors_of lower.moves ++ vectors_of links) (move_at (vectors_of basis.moves) pair.first) (move_at (vectors_of basis.moves) pair.second)
 
 -- links of the weight that follows the lower moves, with these pairs joined below
-pub record AreGathered (basis lower : TheBasis) (pairs : List Overlap) (links : List Weighed) : Type 0 where
+pub record AreGathered (basis lower : BasisView) (pairs : List Overlap) (links : List Weighed) : Type 0 where
   pub belong : All (BelongsTo basis.priority basis.grading) links
   pub linked : AreLinks (length basis.grading) (vectors_of basis.moves) (vectors_of lower.moves) basis.grading (weight_at basis (length lower.moves)) (vectors_of links)
   pub joined : All (PairJoined basis lower links) pairs
 
-module _ (basis : TheBasis) (h : IsReducedList basis) (lower : TheBasis) (front : IsFront basis lower) (more : length lower.moves < length basis.moves) where
+module _ (basis : BasisView) (h : IsReducedList basis) (lower : BasisView) (front : IsFront basis lower) (more : length lower.moves < length basis.moves) where
   abbrev n : ℕ
   n = length basis.grading
 
@@ -59,7 +59,7 @@ module _ (basis : TheBasis) (h : IsReducedList basis) (lower : TheBasis) (front 
   abbrev bound : ℤ
   bound = weight_at basis (length lower.moves)
 
-  g : IsGrading n rows w
+  g : HasGrading (lattice_of n rows w)
   g = list_grading basis h
 
   part : AreLower w rows bound L
@@ -211,7 +211,7 @@ module _ (basis : TheBasis) (h : IsReducedList basis) (lower : TheBasis) (front 
     pairs_joined : PairsJoined n L w bound (vectors_of links)
     pairs_joined u v c d e = go (lower_place basis h lower front more u c) (lower_place basis h lower front more v d)
       where
-        o : AreOrientedMoves n rows w (standard n) (L ++ vectors_of links)
+        o : AreOrientedMoves (lattice_of n rows w) (standard n) (L ++ vectors_of links)
         o = both_oriented g h.reduced part gathered.linked
 
         cases : (i j : ℕ) → (i < j) ⊎ (j < i) ⊎ (i ≡ j)

@@ -3,7 +3,7 @@ use Rattle.std.proofs.Common.{◌≡◌, ◌⊎◌, inl, inr, ℕ, List, ◌++�
 use Rattle.std.proofs.lemmas.Int.{ints}
 use Rattle.std.proofs.lemmas.List.Elements.{All-contains, Contains-append_left, Contains-append_cases}
 use Rattle.mk_model.specs.Vectors.{subtract, weight, IsPoint}
-use Rattle.mk_model.specs.Lattices.{InLattice, IsGrading}
+use Rattle.mk_model.specs.Lattices.{lattice_of, InLattice, HasGrading}
 use Rattle.mk_model.specs.Orders.{IsBelow, IsOriented, standard, lead, tail}
 use Rattle.mk_model.specs.Walks.{Walk, Members, Joined}
 use Rattle.mk_model.specs.Walks.Walk.{stay}
@@ -30,7 +30,7 @@ abbrev pub PairsJoined : ℕ → List (List ℤ) → List ℤ → ℤ → List (
 PairsJoined n lower w bound links =
     (a b : List ℤ) → Contains lower a → Contains lower b → weight w (lcm (lead a) (lead b)) ≡ bound → JoinedBelow n (standard n) (lower ++ links) a b
 
-module _ {n : ℕ} {rows : List (List ℤ)} {w : List ℤ} {moves : List (List ℤ)} (g : IsGrading n rows w) (basis : IsReducedBasis n rows w moves) {bound : ℤ} {lower links : List (List ℤ)} (part : AreLower w moves bound lower) (linked : AreLinks n rows lower w bound links) where
+module _ {n : ℕ} {rows : List (List ℤ)} {w : List ℤ} {moves : List (List ℤ)} (g : HasGrading (lattice_of n rows w)) (basis : IsReducedBasis (lattice_of n rows w) moves) {bound : ℤ} {lower links : List (List ℤ)} (part : AreLower w moves bound lower) (linked : AreLinks n rows lower w bound links) where
   pub link_of : (u : List ℤ) → Contains links u → IsLink n rows lower w bound u
   link_of u c = All-contains (IsLink n rows lower w bound) links u linked.each c
 
@@ -40,7 +40,7 @@ module _ {n : ℕ} {rows : List (List ℤ)} {w : List ℤ} {moves : List (List �
   both_move : (u : List ℤ) → Contains (lower ++ links) u → IsMove n rows u
   both_move u c = ⊎_elim (lower_move g basis part u) (link_move u) (Contains-append_cases lower links u c)
 
-  pub both_oriented : AreOrientedMoves n rows w (standard n) (lower ++ links)
+  pub both_oriented : AreOrientedMoves (lattice_of n rows w) (standard n) (lower ++ links)
   both_oriented = record {
     grading = g;
     in_lattice = All-from_contains (InLattice n rows) (lower ++ links) (λ m c. (both_move m c).in_lattice);
@@ -78,10 +78,10 @@ module _ {n : ℕ} {rows : List (List ℤ)} {w : List ℤ} {moves : List (List �
             (stay (rw d.below at (point_below_from_descent both_oriented q d)))
 
     -- a point of the weight that no lead divides is the least of its component
-    pub irreducible_is_first : (x : List ℤ) → IsPoint n x → weight w x ≡ bound → IsIrreducible (lower ++ links) x → IsLeastOfComponent n rows w x
-    irreducible_is_first x q e none = record { point = q; none_below = λ y j b. refuse y (subst (λ z. Joined n (LighterMoves n rows w z) x y) e j) b }
+    pub irreducible_is_first : (x : List ℤ) → IsPoint n x → weight w x ≡ bound → IsIrreducible (lower ++ links) x → IsLeastOfComponent (lattice_of n rows w) x
+    irreducible_is_first x q e none = record { point = q; none_below = λ y j b. refuse y (subst (λ z. Joined n (LighterMoves (lattice_of n rows w) z) x y) e j) b }
       where
-        refuse : (y : List ℤ) → Joined n (LighterMoves n rows w bound) x y → IsBelow (standard n) y x → ⊥
+        refuse : (y : List ℤ) → Joined n (LighterMoves (lattice_of n rows w) bound) x y → IsBelow (standard n) y x → ⊥
         refuse y j b =
             let walk : Joined n (Members (lower ++ links)) x y = walk_weaker (Contains-append_left lower links) (λ z h. h) (joined_by_lower g basis part j) in
             let met : Meet (lower ++ links) x y = confluence_at both_oriented bound peaks x y e walk in
@@ -89,7 +89,7 @@ module _ {n : ℕ} {rows : List (List ℤ)} {w : List ℤ} {moves : List (List �
             ⊎_elim (λ s. IsBelow-not_same (standard n) y x (sym s) b) (λ c. IsBelow-asymmetric (standard n) x y c b) (reach_below both_oriented (walk_to walk) down)
 
     -- the lead of a member of the weight that is no link's lead is the least of its component
-    pub lead_is_first : (m : List ℤ) → Contains moves m → weight w (lead m) ≡ bound → ((u : List ℤ) → Contains links u → lead u ≡ lead m → ⊥) → IsLeastOfComponent n rows w (lead m)
+    pub lead_is_first : (m : List ℤ) → Contains moves m → weight w (lead m) ≡ bound → ((u : List ℤ) → Contains links u → lead u ≡ lead m → ⊥) → IsLeastOfComponent (lattice_of n rows w) (lead m)
     lead_is_first m c e none = irreducible_is_first (lead m) point e (λ v h d. ⊎_elim (λ k. below v k d) (λ k. none v k (link_whole (lead m) v point e k d)) (Contains-append_cases lower links v h))
       where
         point : IsPoint n (lead m)
@@ -108,6 +108,6 @@ module _ {n : ℕ} {rows : List (List ℤ)} {w : List ℤ} {moves : List (List �
   lead_steps_lighter m u e c same = record {
     lower = tail u;
     below = subst (IsBelow (standard n) (tail u)) same (link_move u c).oriented;
-    joined = subst (λ z. Joined n (LighterMoves n rows w z) (lead m) (tail u)) (sym e)
-        (subst (λ x. Joined n (LighterMoves n rows w bound) x (tail u)) same (lower_are_lighter g basis part (link_of u c).joined));
+    joined = subst (λ z. Joined n (LighterMoves (lattice_of n rows w) z) (lead m) (tail u)) (sym e)
+        (subst (λ x. Joined n (LighterMoves (lattice_of n rows w) bound) x (tail u)) same (lower_are_lighter g basis part (link_of u c).joined));
   }

@@ -8,7 +8,7 @@ use Rattle.std.proofs.lemmas.Int.{ints}
 use Rattle.std.proofs.lemmas.List.{get_or_default}
 use Rattle.std.proofs.lemmas.List.Elements.{All-push, Contains-append_left, Contains-append_right, Contains-push_cases}
 use Rattle.mk_model.specs.Vectors.{entry, zeros, add, subtract, negate, scale, positive_part, negative_part, weight}
-use Rattle.mk_model.specs.Lattices.{IsGrading, is_zero}
+use Rattle.mk_model.specs.Lattices.{lattice_of, HasGrading, is_zero}
 use Rattle.mk_model.specs.Orders.{IsOriented, standard, lead}
 use Rattle.mk_model.specs.Pairs.{AreOrientedMoves, JoinedBelow}
 use Rattle.mk_model.specs.Reductions.{Divides, Reaches, IsReduction, Reduct}
@@ -71,7 +71,7 @@ pub steps_reduce : (links : List (List ℤ)) {r s : List ℤ} → Reaches (IsLin
 steps_reduce links here = here
 steps_reduce links (go {x = x} {y = y} d rest) = go (step_reduces links x y d) (steps_reduce links rest)
 
-module _ {n : ℕ} {rows : List (List ℤ)} {w : List ℤ} {moves : List (List ℤ)} (g : IsGrading n rows w) (basis : IsReducedBasis n rows w moves) {bound : ℤ} {lower : List (List ℤ)} (part : AreLower w moves bound lower) where
+module _ {n : ℕ} {rows : List (List ℤ)} {w : List ℤ} {moves : List (List ℤ)} (g : HasGrading (lattice_of n rows w)) (basis : IsReducedBasis (lattice_of n rows w) moves) {bound : ℤ} {lower : List (List ℤ)} (part : AreLower w moves bound lower) where
   link_columns : (r : List ℤ) → IsLink n rows lower w bound r → length r ≡ n
   link_columns r link = InLattice-columns n rows r g.rows_columns link.in_lattice
 
@@ -130,7 +130,7 @@ module _ {n : ℕ} {rows : List (List ℤ)} {w : List ℤ} {moves : List (List �
 
   -- ---- the pair whose difference left a link
   module _ {links : List (List ℤ)} (linked : AreLinks n rows lower w bound links) (a b r s : List ℤ) (h : Contains lower a) (k : Contains lower b) (d : Reduct lower (subtract b a) r) where
-    o : AreOrientedMoves n rows w (standard n) (lower ++ links)
+    o : AreOrientedMoves (lattice_of n rows w) (standard n) (lower ++ links)
     o = both_oriented g basis part linked
 
     whole : Reduct links r s → Reduct (lower ++ links) (subtract b a) s

@@ -17,7 +17,7 @@ use Rattle.mk_model.proofs.DivisorWeights.{divisor_cases}
 use Rattle.mk_model.proofs.Confluence.{reaches_append}
 use Rattle.mk_move.specs.Gradings.{AreWeights}
 use Rattle.mk_move.specs.Moves.{Weighed, IsGraded, IsRowOriented}
-use Rattle.mk_move.specs.MoveLists.{TheBasis, BelongsTo, IsBasis, vectors_of}
+use Rattle.mk_move.specs.MoveLists.{BasisView, BelongsTo, IsBasis, vectors_of}
 use Rattle.mk_move.specs.Sides.{part_of}
 use Rattle.mk_move.specs.Steps.{minus_times, TakesOff, IsOverflow}
 use Rattle.mk_move.specs.declared.side.Side.{Side}
@@ -84,13 +84,13 @@ less_link_is w m link side left r s taken = record {
 }
 
 -- ---- one step after another
-pub belongs_rest : (basis : TheBasis) → IsBasis basis → (m : Weighed) → BelongsTo basis.priority basis.grading m → IsRest basis.grading m
+pub belongs_rest : (basis : BasisView) → IsBasis basis → (m : Weighed) → BelongsTo basis.priority basis.grading m → IsRest basis.grading m
 belongs_rest basis h m b = record { columns = b.columns ∙ h.columns; graded = b.graded }
 
-pub link_rest : (basis : TheBasis) (links : List Weighed) → IsBasis basis → All (BelongsTo basis.priority basis.grading) links → All (IsRest basis.grading) links
+pub link_rest : (basis : BasisView) (links : List Weighed) → IsBasis basis → All (BelongsTo basis.priority basis.grading) links → All (IsRest basis.grading) links
 link_rest basis links h each k d l = belongs_rest basis h (get_or links k d) (each k d l)
 
-pub link_columns : (basis : TheBasis) (links : List Weighed) (m : Weighed) → IsBasis basis → IsRest basis.grading m → All (BelongsTo basis.priority basis.grading) links → All (λ link. length link.entries ≡ length m.entries) links
+pub link_columns : (basis : BasisView) (links : List Weighed) (m : Weighed) → IsBasis basis → IsRest basis.grading m → All (BelongsTo basis.priority basis.grading) links → All (λ link. length link.entries ≡ length m.entries) links
 link_columns basis links m h r each k d l = (link_rest basis links h each k d l).columns ∙ sym r.columns
 
 abbrev none : Weighed
@@ -103,11 +103,11 @@ member_at links place link e = (place, omega (arith, slice_get_within links plac
     at = get_or-map (λ (m : Weighed). m.entries) links place link link.entries (slice_get_within links place link e) ∙ ap (λ (m : Weighed). m.entries) (get_or_from_slice_get links place link link e)
 
 -- so far, and what is left now
-pub record IsSoFar (basis : TheBasis) (links : List Weighed) (began now : Weighed) : Type 0 where
+pub record IsSoFar (basis : BasisView) (links : List Weighed) (began now : Weighed) : Type 0 where
   pub steps : Reaches (IsLinkStep (vectors_of links)) began.entries now.entries
   pub rest : IsRest basis.grading now
 
-module _ (basis : TheBasis) (h : IsBasis basis) (links : List Weighed) (each : All (BelongsTo basis.priority basis.grading) links) where
+module _ (basis : BasisView) (h : IsBasis basis) (links : List Weighed) (each : All (BelongsTo basis.priority basis.grading) links) where
   link_at : (place : ℕ) (link : Weighed) → slice_get links place ≡ Some link → BelongsTo basis.priority basis.grading link
   link_at place link e = subst (BelongsTo basis.priority basis.grading) (get_or_from_slice_get links place link link e) (each place link (slice_get_within links place link e))
 
@@ -187,14 +187,14 @@ lacks_lead w links each m r none h = go h.member
         none k default within (part_is_end w m (get_or links k default) Plus r (each k default within) (ap lead same ∙ h.same))
 
 -- ---- a link that is oriented
-pub oriented_belongs : (basis : TheBasis) → IsBasis basis → (left link : Weighed) → IsRest basis.grading left → IsRowOriented left.entries basis.priority link.entries → ((w : List ℤ) → IsGraded w left → IsGraded w link) → BelongsTo basis.priority basis.grading link
+pub oriented_belongs : (basis : BasisView) → IsBasis basis → (left link : Weighed) → IsRest basis.grading left → IsRowOriented left.entries basis.priority link.entries → ((w : List ℤ) → IsGraded w left → IsGraded w link) → BelongsTo basis.priority basis.grading link
 oriented_belongs basis h left link r o graded = record {
   columns = length-oriented left.entries basis.priority link.entries o ∙ r.columns ∙ sym h.columns;
   graded = graded basis.grading r.graded;
   oriented = o.oriented;
 }
 
-pub added_link : (basis : TheBasis) → IsBasis basis → (m left link : Weighed) (links given after : List Weighed) (left_is : Option Weighed) → given ≡ links → left_is ≡ Some left → IsLeftOf (vectors_of given) basis.grading m.entries left_is →
+pub added_link : (basis : BasisView) → IsBasis basis → (m left link : Weighed) (links given after : List Weighed) (left_is : Option Weighed) → given ≡ links → left_is ≡ Some left → IsLeftOf (vectors_of given) basis.grading m.entries left_is →
     IsRowOriented left.entries basis.priority link.entries → ((w : List ℤ) → IsGraded w left → IsGraded w link) → after ≡ links ++ link ∷ [] → IsAdded basis m links after
 added_link basis h m left link links given after left_is same some leaves o graded more =
     let there : IsLeftOf (vectors_of links) basis.grading m.entries (Some left) =

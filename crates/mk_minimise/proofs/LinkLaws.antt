@@ -2,7 +2,7 @@
 use Rattle.std.proofs.Common.{◌≡◌, ◌≢◌, ◌⊎◌, ℕ, List, length, ℤ, ◌<ℤ◌, ◌≤ℤ◌, Contains, arith, ap, sym, ◌∙◌, subst, ⊎_elim}
 use Rattle.std.proofs.lemmas.Int.{ints, by_lt_z}
 use Rattle.mk_model.specs.Vectors.{entry, zeros, subtract, negate, positive_part, negative_part, weight, IsPoint}
-use Rattle.mk_model.specs.Lattices.{InLattice, IsGrading}
+use Rattle.mk_model.specs.Lattices.{lattice_of, InLattice, HasGrading}
 use Rattle.mk_model.specs.Orders.{standard, lead}
 use Rattle.mk_model.specs.Walks.{Members, Joined}
 use Rattle.mk_model.specs.Reductions.{lcm, Divides, Reduct, IsIrreducible}
@@ -28,7 +28,7 @@ parts_apart r apart e = apart (only_zeros r (λ c. omega (arith, ints, columns, 
 irreducible_divisor : (lower : List (List ℤ)) (x y : List ℤ) → Divides y x → IsIrreducible lower x → IsIrreducible lower y
 irreducible_divisor lower x y d none v c e = none v c (Divides-transitive e d)
 
-module _ {n : ℕ} {rows : List (List ℤ)} {w : List ℤ} {moves : List (List ℤ)} (g : IsGrading n rows w) (basis : IsReducedBasis n rows w moves) {bound : ℤ} {lower : List (List ℤ)} (part : AreLower w moves bound lower) where
+module _ {n : ℕ} {rows : List (List ℤ)} {w : List ℤ} {moves : List (List ℤ)} (g : HasGrading (lattice_of n rows w)) (basis : IsReducedBasis (lattice_of n rows w) moves) {bound : ℤ} {lower : List (List ℤ)} (part : AreLower w moves bound lower) where
   -- a vector of the lattice that isn't zero, no part of which a lower lead divides, isn't lighter
   pub not_lighter : (r : List ℤ) → InLattice n rows r → r ≢ zeros (length r) → IsIrreducible lower (positive_part r) → IsIrreducible lower (negative_part r) → bound ≤ℤ weight w (positive_part r)
   not_lighter r h apart f t = by_lt_z (weight w (positive_part r)) bound (λ l. absurd (refuse l)) (λ l. l)
@@ -92,7 +92,7 @@ module _ {n : ℕ} {rows : List (List ℤ)} {w : List ℤ} {moves : List (List �
       inside : (m : List ℤ) → Contains lower m → InLattice n rows m
       inside m c = (lower_move g basis part m c).in_lattice
 
-      o : AreOrientedMoves n rows w (standard n) lower
+      o : AreOrientedMoves (lattice_of n rows w) (standard n) lower
       o = lower_oriented g basis part
 
       l : List ℤ

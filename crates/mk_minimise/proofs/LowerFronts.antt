@@ -6,7 +6,7 @@ use Rattle.std.proofs.lemmas.List.{get_or_default, get_or-take, length-take, tak
 use Rattle.std.proofs.lemmas.List.Elements.{All-take, Contains-get_or}
 use Rattle.std.proofs.lemmas.Option.{get_or_from_slice_get, slice_get_within}
 use Rattle.mk_model.specs.CoreStates.{move_at, IsPairOf, pair_of}
-use Rattle.mk_model.specs.Lattices.{IsGrading}
+use Rattle.mk_model.specs.Lattices.{HasGrading}
 use Rattle.mk_model.specs.Orders.{lead, ComesBefore}
 use Rattle.mk_model.specs.Reductions.{lcm, Divides}
 use Rattle.mk_model.specs.ReducedBases.{IsReducedMove}
@@ -17,7 +17,7 @@ use Rattle.mk_model.proofs.Divisors.{IsPoint-lcm, Divides-lcm_first, Divides-lcm
 use Rattle.mk_model.proofs.DivisorWeights.{divisor_cases}
 use Rattle.mk_model.proofs.ReducedLaws.{reduced_ends, member_reduced, member_move}
 use Rattle.mk_move.specs.Moves.{Weighed}
-use Rattle.mk_move.specs.MoveLists.{TheBasis, BelongsTo, IsBasis, vectors_of}
+use Rattle.mk_move.specs.MoveLists.{lattice_spanned, BasisView, BelongsTo, IsBasis, vectors_of}
 use Rattle.mk_reduce.specs.Leads.{leads_of}
 use Rattle.mk_reduce.proofs.Beginnings.{length-vectors_of}
 use Rattle.mk_inter.specs.Tails.{IsReducedList}
@@ -27,32 +27,32 @@ use Rattle.mk_inter.proofs.LeastTails.{reduced_once}
 use Rattle.mk_minimise.specs.declared.overlaps.Overlap.{Overlap}
 use Rattle.mk_minimise.specs.Links.{AreLower}
 use Rattle.mk_minimise.specs.Overlaps.{IsOverlap}
-use Rattle.mk_minimise.specs.Stages.{weight_at, IsCut, IsFront}
+use Rattle.mk_minimise.specs.Stages.{weight_at, IsWeightCut, IsFront}
 use Rattle.mk_minimise.proofs.LowerMoves.{lead_not_least}
 use Rattle.mk_minimise.proofs.RunsOfWeight.{weights_rise}
 
 -- ---- the moves put one after another
-pub record IsRaising (basis : TheBasis) (place : ℕ) (moves : TheBasis) (leads : List (List ℤ)) : Type 0 where
+pub record IsRaising (basis : BasisView) (place : ℕ) (moves : BasisView) (leads : List (List ℤ)) : Type 0 where
   pub moves_are : moves.moves ≡ take place basis.moves
   pub priority : moves.priority ≡ basis.priority
   pub grading : moves.grading ≡ basis.grading
   pub leads_are : leads ≡ leads_of moves.moves
 
-pub raising_begins : (basis lower : TheBasis) (leads : List (List ℤ)) → IsFront basis lower → leads ≡ leads_of lower.moves → IsRaising basis (length lower.moves) lower leads
+pub raising_begins : (basis lower : BasisView) (leads : List (List ℤ)) → IsFront basis lower → leads ≡ leads_of lower.moves → IsRaising basis (length lower.moves) lower leads
 raising_begins basis lower leads front e = record { moves_are = front.moves; priority = front.priority; grading = front.grading; leads_are = e }
 
-module _ (basis : TheBasis) (place : ℕ) (moves : TheBasis) (leads : List (List ℤ)) (raising : IsRaising basis place moves leads) where
-  pub raising_more : (m : Weighed) (after : TheBasis) (leads_after : List (List ℤ)) → slice_get basis.moves place ≡ Some m → after ≡ record moves { moves = moves.moves ++ m ∷ [] } → leads_after ≡ leads ++ lead m.entries ∷ [] →
+module _ (basis : BasisView) (place : ℕ) (moves : BasisView) (leads : List (List ℤ)) (raising : IsRaising basis place moves leads) where
+  pub raising_more : (m : Weighed) (after : BasisView) (leads_after : List (List ℤ)) → slice_get basis.moves place ≡ Some m → after ≡ record moves { moves = moves.moves ++ m ∷ [] } → leads_after ≡ leads ++ lead m.entries ∷ [] →
       IsRaising basis (place + 1) after leads_after
   raising_more m after leads_after at e f = record {
     moves_are = now ∙ ap (λ xs. xs ++ m ∷ []) raising.moves_are ∙ sym more;
-    priority = ap (λ (b : TheBasis). b.priority) e ∙ raising.priority;
-    grading = ap (λ (b : TheBasis). b.grading) e ∙ raising.grading;
+    priority = ap (λ (b : BasisView). b.priority) e ∙ raising.priority;
+    grading = ap (λ (b : BasisView). b.grading) e ∙ raising.grading;
     leads_are = f ∙ ap (λ xs. xs ++ lead m.entries ∷ []) raising.leads_are ∙ sym (map-append (λ (m : Weighed). lead m.entries) moves.moves (m ∷ [])) ∙ ap leads_of (sym now);
   }
     where
       now : after.moves ≡ moves.moves ++ m ∷ []
-      now = ap (λ (b : TheBasis). b.moves) e
+      now = ap (λ (b : BasisView). b.moves) e
 
       more : take (place + 1) basis.moves ≡ take place basis.moves ++ m ∷ []
       more = take_more basis.moves place m (slice_get_within basis.moves place m at) ∙ ap (λ x. take place basis.moves ++ x ∷ []) (get_or_from_slice_get basis.moves place m m at)
@@ -69,25 +69,25 @@ module _ (basis : TheBasis) (place : ℕ) (moves : TheBasis) (leads : List (List
   pub raising_count : place ≤ length basis.moves → length moves.moves ≡ place
   raising_count l = omega (arith, l, ap length raising.moves_are, length-take place basis.moves)
 
-  pub raising_ends : place ≤ length basis.moves → IsCut basis place → IsFront basis moves
+  pub raising_ends : place ≤ length basis.moves → IsWeightCut basis place → IsFront basis moves
   raising_ends l cut =
       let count = raising_count l in
       record {
         moves = raising.moves_are ∙ ap (λ k. take k basis.moves) (sym count);
         priority = raising.priority;
         grading = raising.grading;
-        cut = subst (IsCut basis) (sym count) cut;
+        cut = subst (IsWeightCut basis) (sym count) cut;
       }
 
 -- ---- the lower moves
-module _ (basis : TheBasis) (h : IsReducedList basis) where
-  pub list_grading : IsGrading (length basis.grading) (vectors_of basis.moves) basis.grading
+module _ (basis : BasisView) (h : IsReducedList basis) where
+  pub list_grading : HasGrading (lattice_spanned basis)
   list_grading = grading_of basis.priority basis.grading basis.moves h.kept.grading h.kept.columns h.kept.moves
 
   pub member_at : (k : ℕ) → k < length basis.moves → Contains (vectors_of basis.moves) (move_at (vectors_of basis.moves) k)
   member_at k l = Contains-get_or (vectors_of basis.moves) k [] (omega (arith, l, length-vectors_of basis.moves))
 
-  module _ (lower : TheBasis) (front : IsFront basis lower) (more : length lower.moves < length basis.moves) where
+  module _ (lower : BasisView) (front : IsFront basis lower) (more : length lower.moves < length basis.moves) where
     abbrev count : ℕ
     count = length lower.moves
 

@@ -2,7 +2,7 @@
 use Rattle.std.proofs.Common.{◌≡◌, ℕ, List, ℤ, ◌<ℤ◌, Contains, arith, ap, sym, subst, ⊎_elim}
 use Rattle.std.proofs.lemmas.Int.{ints}
 use Rattle.mk_model.specs.Vectors.{subtract, weight, IsPoint}
-use Rattle.mk_model.specs.Lattices.{InLattice, IsGrading}
+use Rattle.mk_model.specs.Lattices.{lattice_of, InLattice, HasGrading}
 use Rattle.mk_model.specs.Orders.{IsOriented, standard, lead, tail}
 use Rattle.mk_model.specs.Walks.{Members, Joined}
 use Rattle.mk_model.specs.Bases.{IsMove}
@@ -21,11 +21,11 @@ use Rattle.mk_model.proofs.Reducts.{JoinedBelow-from_meet}
 use Rattle.mk_model.proofs.ReducedLaws.{member_move, one_least, least_or_divided}
 use Rattle.mk_model.proofs.Components.{lighter_by_members}
 
-module _ {n : ℕ} {rows : List (List ℤ)} {w : List ℤ} {moves : List (List ℤ)} (g : IsGrading n rows w) (basis : IsReducedBasis n rows w moves) {bound : ℤ} {lower : List (List ℤ)} (part : AreLower w moves bound lower) where
+module _ {n : ℕ} {rows : List (List ℤ)} {w : List ℤ} {moves : List (List ℤ)} (g : HasGrading (lattice_of n rows w)) (basis : IsReducedBasis (lattice_of n rows w) moves) {bound : ℤ} {lower : List (List ℤ)} (part : AreLower w moves bound lower) where
   pub lower_move : (m : List ℤ) → Contains lower m → IsMove n rows m
   lower_move m c = member_move g basis m (part.member m c)
 
-  pub lower_oriented : AreOrientedMoves n rows w (standard n) lower
+  pub lower_oriented : AreOrientedMoves (lattice_of n rows w) (standard n) lower
   lower_oriented = record {
     grading = g;
     in_lattice = All-from_contains (InLattice n rows) lower (λ m c. (lower_move m c).in_lattice);
@@ -47,10 +47,10 @@ module _ {n : ℕ} {rows : List (List ℤ)} {w : List ℤ} {moves : List (List �
           ⊎_elim (λ k. omega (arith, ints, k, l)) (λ e. omega (arith, ints, l, ap (weight w) e)) (divisor_cases g x (lead m) q (IsMove-lead g (member_move g basis m c)) d)
 
   -- what lighter moves of the lattice join, these join, and the other way round
-  pub joined_by_lower : {x y : List ℤ} → Joined n (LighterMoves n rows w bound) x y → Joined n (Members lower) x y
+  pub joined_by_lower : {x y : List ℤ} → Joined n (LighterMoves (lattice_of n rows w) bound) x y → Joined n (Members lower) x y
   joined_by_lower j = walk_weaker (λ m (c, l). part.every m c l) (λ x q. q) (lighter_by_members g basis bound j)
 
-  pub lower_are_lighter : {x y : List ℤ} → Joined n (Members lower) x y → Joined n (LighterMoves n rows w bound) x y
+  pub lower_are_lighter : {x y : List ℤ} → Joined n (Members lower) x y → Joined n (LighterMoves (lattice_of n rows w) bound) x y
   lower_are_lighter j = walk_weaker (λ m c. (lower_move m c, part.lighter m c)) (λ x q. q) j
 
   -- where a lighter point steps down to, the least of its fibre stands

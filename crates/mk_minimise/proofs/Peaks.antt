@@ -4,7 +4,7 @@ use Rattle.std.proofs.Common.{◌≡◌, ◌⊎◌, inl, inr, ℕ, zero, suc, �
 use Rattle.std.proofs.lemmas.List.Elements.{All-contains}
 use borrow.Author.Differences.{up}
 use Rattle.mk_model.specs.Vectors.{subtract, weight, IsPoint}
-use Rattle.mk_model.specs.Lattices.{InLattice}
+use Rattle.mk_model.specs.Lattices.{lattice_of, InLattice}
 use Rattle.mk_model.specs.Walks.{IsStep, Walk, Members, Joined}
 use Rattle.mk_model.specs.Walks.Walk.{stay, step}
 use Rattle.mk_model.specs.Reductions.{Reaches, IsDescent, Meet}
@@ -23,7 +23,7 @@ abbrev pub PeaksJoined : ℕ → List ℤ → List ℕ → List (List ℤ) → �
 PeaksJoined n w p moves W =
     (x a b : List ℤ) → IsPoint n x → weight w x ≡ W → IsDescent moves x a → IsDescent moves x b → Walk (Members moves) (IsPointBelow n p x) a b
 
-module _ {n : ℕ} {rows : List (List ℤ)} {w : List ℤ} {p : List ℕ} {moves : List (List ℤ)} (o : AreOrientedMoves n rows w p moves) (W : ℤ) where
+module _ {n : ℕ} {rows : List (List ℤ)} {w : List ℤ} {p : List ℕ} {moves : List (List ℤ)} (o : AreOrientedMoves (lattice_of n rows w) p moves) (W : ℤ) where
   pub member_step_weight : {x y : List ℤ} → IsPoint n x → IsStep (Members moves) x y → weight w y ≡ weight w x
   member_step_weight {x} {y} q (m, h, s) = step_weight o.grading x y m q (All-contains (InLattice n rows) moves m o.in_lattice h) s
 

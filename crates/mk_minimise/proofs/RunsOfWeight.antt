@@ -7,22 +7,22 @@ use Rattle.mk_model.specs.CoreStates.{move_at}
 use Rattle.mk_model.specs.Orders.{lead, ComesBefore}
 use Rattle.mk_model.specs.Vectors.{weight}
 use Rattle.mk_move.specs.Moves.{Weighed, IsGraded}
-use Rattle.mk_move.specs.MoveLists.{TheBasis, vectors_of}
+use Rattle.mk_move.specs.MoveLists.{BasisView, vectors_of}
 use Rattle.mk_inter.specs.Tails.{IsReducedList}
 use Rattle.mk_reduce.proofs.Beginnings.{vector_at, length-vectors_of}
-use Rattle.mk_minimise.specs.Stages.{weight_at, IsCut, IsAsHeavy, IsWeightRun}
+use Rattle.mk_minimise.specs.Stages.{weight_at, IsWeightCut, IsAsHeavy, IsWeightRun}
 
 -- the weight that a move has
-pub weight_is : (basis : TheBasis) (k : ℕ) (m : Weighed) → slice_get basis.moves k ≡ Some m → IsGraded basis.grading m → m.weight ≡ weight_at basis k
+pub weight_is : (basis : BasisView) (k : ℕ) (m : Weighed) → slice_get basis.moves k ≡ Some m → IsGraded basis.grading m → m.weight ≡ weight_at basis k
 weight_is basis k m e h = h.weight ∙ ap (λ x. weight basis.grading (lead x)) (sym (vector_at basis.moves k m e))
 
 -- the places from start to end have the weight of the start
-pub record IsRunSoFar (basis : TheBasis) (start end : ℕ) : Type 0 where
+pub record IsRunSoFar (basis : BasisView) (start end : ℕ) : Type 0 where
   pub some : start < end
   pub within : end ≤ length basis.moves
   pub same : (k : ℕ) → start ≤ k → k < end → weight_at basis k ≡ weight_at basis start
 
-module _ (basis : TheBasis) (h : IsReducedList basis) where
+module _ (basis : BasisView) (h : IsReducedList basis) where
   weights_ascend : (i j : ℕ) → i < j → j < length basis.moves → weight_at basis i ≤ℤ weight_at basis j
   weights_ascend i j l k = go (h.reduced.ascending i j [] l (omega (arith, k, length-vectors_of basis.moves)))
     where
@@ -75,5 +75,5 @@ module _ (basis : TheBasis) (h : IsReducedList basis) where
       more l = by_lt_z (weight_at basis start) (weight_at basis end) (λ s. s)
           (λ s. absurd (none (record { within = l; same = omega (arith, ints, s, weights_rise start end (omega (arith, r.some)) l) })))
 
-      cut : IsCut basis end
+      cut : IsWeightCut basis end
       cut i j l k m = omega (arith, ints, at_most i l (cases_lt i start), more (omega arith), weights_rise end j k m)

@@ -8,7 +8,7 @@ use Rattle.mk_model.specs.Orders.{lead}
 use Rattle.mk_model.specs.Overflows.{IsGenuineOverflow}
 use Rattle.mk_model.proofs.Journals.{IsGenuineOverflow-append}
 use Rattle.mk_move.specs.Moves.{Weighed}
-use Rattle.mk_move.specs.MoveLists.{TheBasis, BelongsTo, vector_of, vectors_of}
+use Rattle.mk_move.specs.MoveLists.{BasisView, BelongsTo, vector_of, vectors_of}
 use Rattle.mk_reduce.proofs.Beginnings.{vector_at, length-vectors_of}
 use Rattle.mk_inter.specs.Tails.{IsReducedList}
 use Rattle.mk_minimise.specs.declared.minimal.MinimiseFault.{MinimiseFault}
@@ -22,12 +22,12 @@ use Rattle.mk_minimise.proofs.LowerFronts.{member_at, vectors_are, overlap_pair,
 
 -- ---- the next move of a run
 -- chosen from the moves before a place, with their columns, and no more than they are
-pub record IsChoosing (basis : TheBasis) (place : ℕ) (items : List Weighed) : Type 0 where
+pub record IsChoosing (basis : BasisView) (place : ℕ) (items : List Weighed) : Type 0 where
   pub chosen : AreChosen (length basis.grading) basis.grading (vectors_of basis.moves) place (vectors_of items)
   pub columns : All (λ m. length m.entries ≡ length basis.grading) items
   pub few : length items ≤ place
 
-module _ (basis : TheBasis) (h : IsReducedList basis) (start end : ℕ) (run : IsWeightRun basis start end) (links : List Weighed)
+module _ (basis : BasisView) (h : IsReducedList basis) (start end : ℕ) (run : IsWeightRun basis start end) (links : List Weighed)
     (tells : TellsLeast (length basis.grading) basis.grading (vectors_of basis.moves) (weight_at basis start) (vectors_of links))
     (place : ℕ) (from : start ≤ place) (to : place < end) (items : List Weighed) (choosing : IsChoosing basis place items) (m : Weighed) (at : slice_get basis.moves place ≡ Some m) where
   within : place < length basis.moves
@@ -72,7 +72,7 @@ pub weight_there : (overlaps pairs : List Overlap) (bound : ℤ) → AreOfWeight
 weight_there overlaps pairs bound found k d l = (found.each k d l).1
 
 -- ---- why the work on a pair stops
-module _ (basis : TheBasis) (h : IsReducedList basis) (lower : TheBasis) (front : IsFront basis lower) (more : length lower.moves < length basis.moves) (pair : Overlap) (o : IsOverlap basis.grading (vectors_of basis.moves) pair) (weighs : pair.weight ≡ weight_at basis (length lower.moves)) where
+module _ (basis : BasisView) (h : IsReducedList basis) (lower : BasisView) (front : IsFront basis lower) (more : length lower.moves < length basis.moves) (pair : Overlap) (o : IsOverlap basis.grading (vectors_of basis.moves) pair) (weighs : pair.weight ≡ weight_at basis (length lower.moves)) where
   abbrev rows : List (List ℤ)
   rows = vectors_of basis.moves
 

@@ -4,7 +4,7 @@ use Rattle.mk_model.specs.Vectors.{negate}
 use Rattle.mk_model.specs.Orders.{lead}
 use Rattle.mk_model.specs.Reductions.{Divides, Reaches}
 use Rattle.mk_move.specs.Moves.{Weighed}
-use Rattle.mk_move.specs.MoveLists.{TheBasis, BelongsTo, vectors_of}
+use Rattle.mk_move.specs.MoveLists.{BasisView, BelongsTo, vectors_of}
 use Rattle.mk_move.specs.Sides.{part_of}
 use Rattle.mk_move.specs.Steps.{minus_times}
 use Rattle.mk_move.specs.declared.side.Side.{Side}
@@ -55,13 +55,13 @@ pub record IsLeftOf (links : List (List ℤ)) (w r : List ℤ) (left : Option We
   pub none_ends : IfSome left (λ m. NoneEnds links m.entries)
 
 -- the links with what is left, oriented, or as before where nothing is
-abbrev pub IsAddedLeft : TheBasis → List Weighed → Option Weighed → List Weighed → Type 0
+abbrev pub IsAddedLeft : BasisView → List Weighed → Option Weighed → List Weighed → Type 0
 IsAddedLeft basis links None after = after ≡ links
 IsAddedLeft basis links (Some left) after =
     (link : Weighed) × (after ≡ links ++ link ∷ []) × BelongsTo basis.priority basis.grading link × ((link.entries ≡ left.entries) ⊎ (link.entries ≡ negate left.entries))
 
 -- The links after a move is put to them: as before, where they leave nothing of it; or with what they leave, oriented, at the end.
-pub record IsAdded (basis : TheBasis) (m : Weighed) (links after : List Weighed) : Type 0 where
+pub record IsAdded (basis : BasisView) (m : Weighed) (links after : List Weighed) : Type 0 where
   pub left : Option Weighed
   pub leaves : IsLeftOf (vectors_of links) basis.grading m.entries left
   pub added : IsAddedLeft basis links left after

@@ -6,7 +6,7 @@ use Rattle.mk_model.specs.Overflows.{IsGenuineOverflow}
 use Rattle.mk_model.specs.Pairs.{AreDisjoint}
 use Rattle.mk_model.specs.Reductions.{lcm}
 use Rattle.mk_model.specs.Vectors.{weight}
-use Rattle.mk_move.specs.MoveLists.{TheBasis, vector_of, vectors_of}
+use Rattle.mk_move.specs.MoveLists.{BasisView, vector_of, vectors_of}
 use Rattle.mk_minimise.specs.declared.minimal.MinimiseFault.{MinimiseFault}
 use Rattle.mk_minimise.specs.declared.minimal.MinimiseFault.TheVariants.{Memory, Overflow}
 
@@ -27,7 +27,7 @@ IsPairFault moves pair (Overflow i j by operand at) =
     (pair_of i j ≡ pair) × IsGenuineOverflow moves (stop_at (pair_of i j) by (vector_of operand) at.column at.left at.times at.right)
 
 -- An entry left the range at a pair of the list. No cause is given for want of memory.
-abbrev pub IsMinimiseFault : TheBasis → MinimiseFault → Type 0
+abbrev pub IsMinimiseFault : BasisView → MinimiseFault → Type 0
 IsMinimiseFault basis Memory = Unit {0}
 IsMinimiseFault basis (Overflow i j by operand at) =
     IsPairOfDegree basis.grading (vectors_of basis.moves) i j

@@ -6,34 +6,35 @@ use Rattle.mk_model.specs.Orders.{IsBelow, standard, lead, ComesBefore}
 use Rattle.mk_model.specs.ReducedBases.{LighterMoves, IsLeastOfComponent}
 use Rattle.mk_model.specs.Vectors.{weight}
 use Rattle.mk_model.specs.Walks.{Joined}
-use Rattle.mk_move.specs.MoveLists.{TheBasis, vectors_of}
+use Rattle.mk_move.specs.MoveLists.{BasisView, vectors_of}
+use Rattle.mk_model.specs.Lattices.{lattice_of}
 
 -- the weight of the lead of a place
-abbrev pub weight_at : TheBasis → ℕ → ℤ
+abbrev pub weight_at : BasisView → ℕ → ℤ
 weight_at basis k = weight basis.grading (lead (move_at (vectors_of basis.moves) k))
 
 -- each move before the place is lighter than each other move
-abbrev pub IsCut : TheBasis → ℕ → Type 0
-IsCut basis count = (i j : ℕ) → i < count → count ≤ j → j < length basis.moves → weight_at basis i <ℤ weight_at basis j
+abbrev pub IsWeightCut : BasisView → ℕ → Type 0
+IsWeightCut basis count = (i j : ℕ) → i < count → count ≤ j → j < length basis.moves → weight_at basis i <ℤ weight_at basis j
 
 -- the moves before a place at which the weight rises, with the list and the grading of the basis
-pub record IsFront (basis lower : TheBasis) : Type 0 where
+pub record IsFront (basis lower : BasisView) : Type 0 where
   pub moves : lower.moves ≡ take (length lower.moves) basis.moves
   pub priority : lower.priority ≡ basis.priority
   pub grading : lower.grading ≡ basis.grading
-  pub cut : IsCut basis (length lower.moves)
+  pub cut : IsWeightCut basis (length lower.moves)
 
 -- the place is one of the basis, with a lead as heavy as that of the start
-pub record IsAsHeavy (basis : TheBasis) (start place : ℕ) : Type 0 where
+pub record IsAsHeavy (basis : BasisView) (start place : ℕ) : Type 0 where
   pub within : place < length basis.moves
   pub same : weight_at basis place ≡ weight_at basis start
 
 -- the places from start to end, and no other behind the start, have this weight
-pub record IsWeightRun (basis : TheBasis) (start end : ℕ) : Type 0 where
+pub record IsWeightRun (basis : BasisView) (start end : ℕ) : Type 0 where
   pub some : start < end
   pub within : end ≤ length basis.moves
   pub same : (k : ℕ) → start ≤ k → k < end → weight_at basis k ≡ weight_at basis start
-  pub cut : IsCut basis end
+  pub cut : IsWeightCut basis end
 
 -- one of the moves has this lead
 pub record HasLead (moves : List (List ℤ)) (x : List ℤ) : Type 0 where
@@ -45,15 +46,15 @@ pub record HasLead (moves : List (List ℤ)) (x : List ℤ) : Type 0 where
 pub record StepsLighter (n : ℕ) (rows : List (List ℤ)) (w m : List ℤ) : Type 0 where
   pub lower : List ℤ
   pub below : IsBelow (standard n) lower (lead m)
-  pub joined : Joined n (LighterMoves n rows w (weight w (lead m))) (lead m) lower
+  pub joined : Joined n (LighterMoves (lattice_of n rows w) (weight w (lead m))) (lead m) lower
 
 -- The leads of the links tell, of the moves of a weight, whose lead isn't the least of its component.
 pub record TellsLeast (n : ℕ) (w : List ℤ) (moves : List (List ℤ)) (bound : ℤ) (links : List (List ℤ)) : Type 0 where
-  pub least : (m : List ℤ) → Contains moves m → weight w (lead m) ≡ bound → ¬ (HasLead links (lead m)) → IsLeastOfComponent n moves w (lead m)
+  pub least : (m : List ℤ) → Contains moves m → weight w (lead m) ≡ bound → ¬ (HasLead links (lead m)) → IsLeastOfComponent (lattice_of n moves w) (lead m)
   pub others : (m : List ℤ) → Contains moves m → weight w (lead m) ≡ bound → HasLead links (lead m) → StepsLighter n moves w m
 
 -- The moves that are chosen from the first of a list: those whose lead is the least of its component, in their order.
 pub record AreChosen (n : ℕ) (w : List ℤ) (moves : List (List ℤ)) (count : ℕ) (chosen : List (List ℤ)) : Type 0 where
   pub ascending : AllPairs (ComesBefore n w) chosen
-  pub each : All (λ m. Contains (take count moves) m × IsLeastOfComponent n moves w (lead m)) chosen
+  pub each : All (λ m. Contains (take count moves) m × IsLeastOfComponent (lattice_of n moves w) (lead m)) chosen
   pub others : (m : List ℤ) → Contains (take count moves) m → Contains chosen m ⊎ StepsLighter n moves w m

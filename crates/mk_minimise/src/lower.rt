@@ -13,10 +13,10 @@ pub(crate) struct Lower {
 
 impl Model for Lower {
     ghost use Rattle.std.specs.Prelude.{◌≡◌};
-    ghost use Rattle.mk_move.specs.MoveLists.{TheBasis};
+    ghost use Rattle.mk_move.specs.MoveLists.{BasisView};
     ghost use Rattle.mk_reduce.specs.Leads.{leads_of};
 
-    ghost Value = { TheBasis };
+    ghost Value = { BasisView };
 
     ghost view = { λ l. l.basis };
 
@@ -25,9 +25,9 @@ impl Model for Lower {
 
 impl Lower {
     ghost use Rattle.std.specs.Prelude.{◌≡◌, ◌≤◌, ◌<◌, [], length, take, IfOk};
-    ghost use Rattle.mk_move.specs.MoveLists.{TheBasis};
+    ghost use Rattle.mk_move.specs.MoveLists.{BasisView};
     ghost use Rattle.mk_reduce.specs.Leads.{leads_of};
-    ghost use Rattle.mk_minimise.specs.Stages.{IsFront, IsCut};
+    ghost use Rattle.mk_minimise.specs.Stages.{IsFront, IsWeightCut};
 
     /// None of the moves of a basis, with its list and its grading.
     pub(crate) fn new(alloc: Global, basis: &Basis) -> Result<Lower, NoMemory>
@@ -68,7 +68,7 @@ impl Lower {
         requires front { IsFront basis.now self }
         requires more { length self.moves ≤ end }
         requires within { end ≤ length basis.now.moves }
-        requires cut { IsCut basis.now end }
+        requires cut { IsWeightCut basis.now end }
         ensures front { IfOk result (IsFront basis.now) }
         ensures count { IfOk result (λ lower. length lower.moves ≡ end) }
     {

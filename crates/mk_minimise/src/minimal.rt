@@ -1,6 +1,6 @@
 ghost use Rattle.std.specs.Prelude.{◌≡◌, ◌<◌, ◌≤◌, IfOk, IfErr, List, ℤ, ◌≤ℤ◌, length, All, Contains, slice_get, Some};
 ghost use Rattle.mk_model.specs.Bases.{IsAnswer};
-ghost use Rattle.mk_move.specs.MoveLists.{vectors_of};
+ghost use Rattle.mk_move.specs.MoveLists.{lattice_spanned, vectors_of};
 ghost use Rattle.mk_model.specs.Orders.{lead};
 ghost use Rattle.mk_model.specs.Vectors.{weight};
 ghost use Rattle.mk_inter.specs.Tails.{IsReducedList};
@@ -74,9 +74,9 @@ pub struct MinimalList {
 
 impl Model for MinimalList {
     ghost use Rattle.std.specs.Prelude.{◌≡◌, ◌<◌, ◌^◌, length, All};
-    ghost use Rattle.mk_move.specs.MoveLists.{TheList};
+    ghost use Rattle.mk_move.specs.MoveLists.{MoveListView};
 
-    ghost Value = { TheList };
+    ghost Value = { MoveListView };
 
     ghost view = { λ l. record { columns = l.columns; moves = l.moves.items } };
 
@@ -107,7 +107,7 @@ pub fn minimise(
     grading: &Grading,
 ) -> Result<MinimalList, MinimiseFault>
     requires { grading.now ≡ basis.now.grading }
-    ensures answer { IfOk result (λ list. IsAnswer (length basis.now.grading) (vectors_of basis.now.moves) basis.now.grading (vectors_of list.moves)) }
+    ensures answer { IfOk result (λ list. IsAnswer (lattice_spanned basis.now) (vectors_of list.moves)) }
     ensures columns { IfOk result (λ list. list.columns ≡ length basis.now.grading) }
     ensures refused { IfErr result (IsMinimiseFault basis.now) }
 {

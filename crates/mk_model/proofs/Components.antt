@@ -3,7 +3,7 @@ use Rattle.std.proofs.Common.{◌⊎◌, inl, inr, ℕ, List, ℤ, ◌<ℤ◌, A
 use Rattle.std.proofs.lemmas.Int.{ints}
 use Rattle.std.proofs.lemmas.List.Elements.{All-weaker}
 use Rattle.mk_model.specs.Vectors.{weight}
-use Rattle.mk_model.specs.Lattices.{IsGrading}
+use Rattle.mk_model.specs.Lattices.{lattice_of, HasGrading}
 use Rattle.mk_model.specs.Orders.{IsBelow, standard, lead, tail, ComesBefore}
 use Rattle.mk_model.specs.Walks.{Joined, Members}
 use Rattle.mk_model.specs.Walks.Walk.{stay, step}
@@ -19,7 +19,7 @@ use Rattle.mk_model.proofs.ReducedLaws.{reduced_ends, member_reduced, member_mov
 abbrev pub LighterMembers : List ℤ → List (List ℤ) → ℤ → List ℤ → Type 0
 LighterMembers w moves bound m = Contains moves m × (weight w (lead m) <ℤ bound)
 
-module _ {n : ℕ} {rows : List (List ℤ)} {w : List ℤ} (g : IsGrading n rows w) where
+module _ {n : ℕ} {rows : List (List ℤ)} {w : List ℤ} (g : HasGrading (lattice_of n rows w)) where
   -- a walk through points lighter than a bound is by moves that are
   pub walk_is_lighter : (moves : List (List ℤ)) → ((m : List ℤ) → Contains moves m → IsMove n rows m) → (bound : ℤ) (x y : List ℤ) → weight w x <ℤ bound →
       Joined n (Members moves) x y → Joined n (LighterMembers w moves bound) x y
@@ -36,29 +36,29 @@ module _ {n : ℕ} {rows : List (List ℤ)} {w : List ℤ} (g : IsGrading n rows
       light (inr (inl (e, d))) = omega (arith, ints, l, ap (weight w) e)
       light (inr (inr (e, d))) = omega (arith, ints, l, ap (weight w) e, IsMove-same_weight g move)
 
-  module _ {moves : List (List ℤ)} (basis : IsReducedBasis n rows w moves) where
+  module _ {moves : List (List ℤ)} (basis : IsReducedBasis (lattice_of n rows w) moves) where
     -- what lighter moves of the lattice join, lighter members of the reduced basis join
-    pub lighter_by_members : (bound : ℤ) {x y : List ℤ} → Joined n (LighterMoves n rows w bound) x y → Joined n (LighterMembers w moves bound) x y
+    pub lighter_by_members : (bound : ℤ) {x y : List ℤ} → Joined n (LighterMoves (lattice_of n rows w) bound) x y → Joined n (LighterMembers w moves bound) x y
     lighter_by_members bound j =
-        walk_replace {moves = LighterMoves n rows w bound} {others = LighterMembers w moves bound}
+        walk_replace {moves = LighterMoves (lattice_of n rows w) bound} {others = LighterMembers w moves bound}
         (λ x y p q (v, (a, l), s). step_by_parts v (IsMove-columns g a) p q s
         (walk_is_lighter moves (member_move g basis) bound (lead v) (tail v) l (reduced_joins g basis (lead v) (tail v) (IsMove-lead g a) (IsMove-tail g a) (IsMove-ends g a)))) j
 
-    pub members_are_lighter : (bound : ℤ) {x y : List ℤ} → Joined n (LighterMembers w moves bound) x y → Joined n (LighterMoves n rows w bound) x y
+    pub members_are_lighter : (bound : ℤ) {x y : List ℤ} → Joined n (LighterMembers w moves bound) x y → Joined n (LighterMoves (lattice_of n rows w) bound) x y
     members_are_lighter bound j = walk_weaker (λ v (c, l). (member_move g basis v c, l)) (λ x p. p) j
 
     -- a member is essential if its lead is the least of its component
-    pub member_is_essential : (m : List ℤ) → Contains moves m → IsLeastOfComponent n rows w (lead m) → IsEssential n rows w m
+    pub member_is_essential : (m : List ℤ) → Contains moves m → IsLeastOfComponent (lattice_of n rows w) (lead m) → IsEssential (lattice_of n rows w) m
     member_is_essential m c first =
         let reduced = member_reduced g basis m c in
         essential_from_ends g (member_move g basis m c) first (subst (IsLeast n rows) ((reduced_ends g reduced).1) reduced.least)
 
     -- The members whose lead is the least of its component, ascending, are the answer: from the lead of each other
     -- member lighter moves lead to a vector below it.
-    pub answer_from_components : {chosen : List (List ℤ)} → AllPairs (ComesBefore n w) chosen → All (λ m. Contains moves m × IsLeastOfComponent n rows w (lead m)) chosen →
-        ((m : List ℤ) → Contains moves m → Contains chosen m ⊎ ((x : List ℤ) × IsBelow (standard n) x (lead m) × Joined n (LighterMoves n rows w (weight w (lead m))) (lead m) x)) →
-        IsAnswer n rows w chosen
+    pub answer_from_components : {chosen : List (List ℤ)} → AllPairs (ComesBefore n w) chosen → All (λ m. Contains moves m × IsLeastOfComponent (lattice_of n rows w) (lead m)) chosen →
+        ((m : List ℤ) → Contains moves m → Contains chosen m ⊎ ((x : List ℤ) × IsBelow (standard n) x (lead m) × Joined n (LighterMoves (lattice_of n rows w) (weight w (lead m))) (lead m) x)) →
+        IsAnswer (lattice_of n rows w) chosen
     answer_from_components {chosen} ascending first others =
         answer_from_reduced g basis ascending
-        (All-weaker (λ m. Contains moves m × IsLeastOfComponent n rows w (lead m)) (IsEssential n rows w) (λ m (c, l). member_is_essential m c l) chosen first)
+        (All-weaker (λ m. Contains moves m × IsLeastOfComponent (lattice_of n rows w) (lead m)) (IsEssential (lattice_of n rows w)) (λ m (c, l). member_is_essential m c l) chosen first)
         (λ m c. ⊎_elim inl (λ (x, b, j). inr (joined_from_lighter g (member_move g basis m c) x j b)) (others m c))

@@ -4,7 +4,7 @@ use Rattle.std.proofs.lemmas.List.{get_or_default}
 use Rattle.std.proofs.lemmas.List.Elements.{All-contains}
 use borrow.Author.Differences.{up}
 use Rattle.mk_model.specs.Vectors.{add, subtract, weight, IsPoint}
-use Rattle.mk_model.specs.Lattices.{InLattice}
+use Rattle.mk_model.specs.Lattices.{lattice_of, InLattice}
 use Rattle.mk_model.specs.Walks.{IsStep, Walk, Members, Joined}
 use Rattle.mk_model.specs.Walks.Walk.{stay, step}
 use Rattle.mk_model.specs.Orders.{IsBelow, IsOriented, lead}
@@ -29,7 +29,7 @@ pub descent_walk : {moves : List (List ℤ)} {place : List ℤ → Type 0} → (
 descent_walk f p here = stay p
 descent_walk f p (go {x = x} {y = y} d r) = step p (d.move, d.member, inr d.below) (descent_walk f (f x y p d) r)
 
-module _ {n : ℕ} {rows : List (List ℤ)} {w : List ℤ} {p : List ℕ} {moves : List (List ℤ)} (o : AreOrientedMoves n rows w p moves) where
+module _ {n : ℕ} {rows : List (List ℤ)} {w : List ℤ} {p : List ℕ} {moves : List (List ℤ)} (o : AreOrientedMoves (lattice_of n rows w) p moves) where
   pub member_columns : (m : List ℤ) → Contains moves m → length m ≡ n
   member_columns m h = InLattice-columns n rows m o.grading.rows_columns (All-contains (InLattice n rows) moves m o.in_lattice h)
 

@@ -9,7 +9,7 @@ use Rattle.std.proofs.lemmas.List.Elements.{All-contains}
 use borrow.Author.Differences.{up}
 use lib.IntN.{*ℤ_comm, *ℤ-zero}
 use Rattle.mk_model.specs.Vectors.{entry, add, subtract, negate, scale, positive_part, negative_part, IsPoint}
-use Rattle.mk_model.specs.Lattices.{InLattice, IsGrading}
+use Rattle.mk_model.specs.Lattices.{lattice_of, InLattice, HasGrading}
 use Rattle.mk_model.specs.Walks.{Members, Joined}
 use Rattle.mk_model.specs.Orders.{IsBelow, IsOriented, lead}
 use Rattle.mk_model.specs.Bases.{IsMarkov}
@@ -77,7 +77,7 @@ markov_from_connected n rows unsaturated moves none a connected = record { in_la
         ends e f walk = rw (e, f) at walk
 
 -- ---- a column leaves after completion for a priority list that begins with it
-module _ {n : ℕ} {rows : List (List ℤ)} {w : List ℤ} {i : ℕ} {p : List ℕ} {moves : List (List ℤ)} (o : AreOrientedMoves n rows w (i ∷ p) moves) where
+module _ {n : ℕ} {rows : List (List ℤ)} {w : List ℤ} {i : ℕ} {p : List ℕ} {moves : List (List ℤ)} (o : AreOrientedMoves (lattice_of n rows w) (i ∷ p) moves) where
   -- leads have no entry in the column
   lead_free : (v : List ℤ) → Contains moves v → entry (lead v) i ≤ℤ pos 0
   lead_free v h = simp entries (clamp (entry v i) (simp entries at (below (All-contains (IsOriented (i ∷ p)) moves v o.oriented h))))
@@ -163,7 +163,7 @@ times_zero k v c e = entry-scale (pos k) v c ∙ ap (λ a. pos k *ℤ a) e ∙ *
 regroup : (x t r s : List ℤ) → length x ≡ length t → length r ≡ length t → length s ≡ length t → add (add x t) (subtract (add r s) t) ≡ add (add x r) s
 regroup x t r s a b c = same_vectors _ _ (omega (arith, lengths)) (λ c. omega (arith, ints, columns))
 
-module _ {n : ℕ} {rows : List (List ℤ)} {w : List ℤ} (g : IsGrading n rows w) (moves : List (List ℤ)) (in_lattice : All (InLattice n rows) moves) where
+module _ {n : ℕ} {rows : List (List ℤ)} {w : List ℤ} (g : HasGrading (lattice_of n rows w)) (moves : List (List ℤ)) (in_lattice : All (InLattice n rows) moves) where
   member_length : (m : List ℤ) → Contains moves m → length m ≡ n
   member_length m h = InLattice-columns n rows m g.rows_columns (All-contains (InLattice n rows) moves m in_lattice h)
 

@@ -3,7 +3,7 @@ use Rattle.std.proofs.Common.{◌≡◌, ◌⊎◌, inl, inr, ℕ, ◌<◌, List
 use Rattle.std.proofs.lemmas.List.{append-nil, get_or_default}
 use Rattle.std.proofs.lemmas.List.Elements.{All-contains, All-push, Contains-append_left, Contains-get_or, Contains-push}
 use Rattle.mk_model.specs.Vectors.{add, subtract, negate, scale, positive_part, negative_part}
-use Rattle.mk_model.specs.Lattices.{InLattice}
+use Rattle.mk_model.specs.Lattices.{lattice_of, InLattice}
 use Rattle.mk_model.specs.Orders.{IsOriented, lead}
 use Rattle.mk_model.specs.Reductions.{Divides, IsReduction, Reduct}
 use Rattle.mk_model.specs.Reductions.Reaches.{here, go}
@@ -46,7 +46,7 @@ module _ (n : ℕ) (rows : List (List ℤ)) (w : List ℤ) (p : List ℕ) where
 
   -- the moves are oriented, and the settled pairs are joined below
   pub record IsSound (journal : List Settle) (moves : List (List ℤ)) : Type 0 where
-    pub oriented : AreOrientedMoves n rows w p moves
+    pub oriented : AreOrientedMoves (lattice_of n rows w) p moves
     pub joined : (pair : Pair) → IsSettled journal pair → IsPairOf moves pair × PairJoined moves pair
 
   PairJoined-append : (moves more : List (List ℤ)) (pair : Pair) → IsPairOf moves pair → PairJoined moves pair → PairJoined (moves ++ more) pair
@@ -80,7 +80,7 @@ module _ (n : ℕ) (rows : List (List ℤ)) (w : List ℤ) (p : List ℕ) where
             (InLattice-subtract n rows b a (All-contains (InLattice n rows) moves b inside b_member) (All-contains (InLattice n rows) moves a inside a_member))
             d.normal_reduct.reduct
 
-    with_placed : (place : ℕ) (move : List ℤ) → IsPlaced p limit moves pair place move → AreOrientedMoves n rows w p (moves ++ move ∷ [])
+    with_placed : (place : ℕ) (move : List ℤ) → IsPlaced p limit moves pair place move → AreOrientedMoves (lattice_of n rows w) p (moves ++ move ∷ [])
     with_placed place move d = record {
       grading = sound.oriented.grading;
       in_lattice = All-push (InLattice n rows) moves move sound.oriented.in_lattice (placed_in_lattice place move d);
@@ -108,7 +108,7 @@ module _ (n : ℕ) (rows : List (List ℤ)) (w : List ℤ) (p : List ℕ) where
             ⊎_elim (λ e. inl (subst (Contains (moves ++ move ∷ [])) e (Contains-push moves move)))
             (λ e. inr (subst (Contains (moves ++ move ∷ [])) e (Contains-push moves move))) d.sign
 
-    way_joins : (way : Way) (after : List (List ℤ)) → IsSettledBy n p limit moves journal pair way after → AreOrientedMoves n rows w p after × PairJoined after pair
+    way_joins : (way : Way) (after : List (List ℤ)) → IsSettledBy n p limit moves journal pair way after → AreOrientedMoves (lattice_of n rows w) p after × PairJoined after pair
     way_joins Coprime after (d, e) = rw e (sound.oriented, joined_by_disjoint sound.oriented a b a_member b_member d)
     way_joins (Chain third) after (d, e) =
         rw e (
@@ -122,7 +122,7 @@ module _ (n : ℕ) (rows : List (List ℤ)) (w : List ℤ) (p : List ℕ) where
   next_sound : (limit : ℕ) (journal : List Settle) (moves : List (List ℤ)) (entry : Settle) (after : List (List ℤ)) → IsSound journal moves → IsNext n p limit journal moves entry after → IsSound (journal ++ entry ∷ []) after
   next_sound limit journal moves entry after sound h = record { oriented = result.0; joined = λ pair s. joined pair (settled_cases journal entry pair s) }
     where
-      result : AreOrientedMoves n rows w p after × PairJoined after entry.pair
+      result : AreOrientedMoves (lattice_of n rows w) p after × PairJoined after entry.pair
       result = way_joins limit journal moves sound entry.pair h.of_moves entry.way after h.settled
 
       grows : Grows limit moves after
@@ -140,14 +140,14 @@ module _ (n : ℕ) (rows : List (List ℤ)) (w : List ℤ) (p : List ℕ) where
   replay_sound limit earlier moves (entry ∷ journal) basis sound (after, h, rest) =
       rw append_assoc at (replay_sound limit (earlier ++ entry ∷ []) after journal basis (next_sound limit earlier moves entry after sound h) rest)
 
-  start_sound : (start : List (List ℤ)) → AreOrientedMoves n rows w p start → IsSound [] start
+  start_sound : (start : List (List ℤ)) → AreOrientedMoves (lattice_of n rows w) p start → IsSound [] start
   start_sound start o = record { oriented = o; joined = λ pair (entry, h, e). absurd (Contains-none entry h) }
 
   -- in a legal state the whole basis is oriented, and the settled pairs are joined below
-  pub legal_sound : (state : CoreState) → IsLegal n p state → AreOrientedMoves n rows w p (start_of state) → IsSound state.journal state.basis
+  pub legal_sound : (state : CoreState) → IsLegal n p state → AreOrientedMoves (lattice_of n rows w) p (start_of state) → IsSound state.journal state.basis
   legal_sound state legal o = replay_sound state.limit [] (start_of state) state.journal state.basis (start_sound (start_of state) o) legal.replays
 
-  pub ended_joined : (state : CoreState) → IsLegal n p state → AreOrientedMoves n rows w p (start_of state) → IsEnded state → EveryPairJoined n p state.basis
+  pub ended_joined : (state : CoreState) → IsLegal n p state → AreOrientedMoves (lattice_of n rows w) p (start_of state) → IsEnded state → EveryPairJoined n p state.basis
   ended_joined state legal o ended i j d l k =
       let s = (legal_sound state legal o).joined (pair_of i j) (ended.all_settled (pair_of i j) (record { ordered = l; within = k })) in
       rw (get_or_default state.basis i d [] (omega arith), get_or_default state.basis j d [] k) (s.1)

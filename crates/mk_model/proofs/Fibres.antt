@@ -3,7 +3,7 @@ use Rattle.std.proofs.Common.{◌≡◌, ◌⊎◌, inl, inr, ℕ, ◌≤◌, mi
 use Rattle.std.proofs.lemmas.Int.{ints, by_lt_z}
 use borrow.Author.Differences.{up, down}
 use Rattle.mk_model.specs.Vectors.{entry, zeros, add, subtract, positive_part, negative_part, weight, IsPoint}
-use Rattle.mk_model.specs.Lattices.{InLattice, IsGrading}
+use Rattle.mk_model.specs.Lattices.{lattice_of, InLattice, HasGrading}
 use Rattle.mk_model.specs.Orders.{IsBelow, IsOriented, standard, lead, tail}
 use Rattle.mk_model.specs.Walks.{IsStep, Joined}
 use Rattle.mk_model.specs.Walks.Walk.{stay, step}
@@ -78,7 +78,7 @@ IsOriented-difference (c ∷ p) x y (inr (e, h)) = inr (omega (arith, ints, colu
 abbrev pub AreEnds : List ℤ → List ℤ → List ℤ → Type 0
 AreEnds m x y = ((x ≡ lead m) × (y ≡ tail m)) ⊎ ((x ≡ tail m) × (y ≡ lead m))
 
-module _ {n : ℕ} {rows : List (List ℤ)} {w : List ℤ} (g : IsGrading n rows w) where
+module _ {n : ℕ} {rows : List (List ℤ)} {w : List ℤ} (g : HasGrading (lattice_of n rows w)) where
   pub point_of_no_weight : (x : List ℤ) → IsPoint n x → weight w x ≤ℤ pos 0 → x ≡ zeros n
   point_of_no_weight x p h =
       only_zeros x (λ c. omega (arith, ints, h, (IsBounded-weight g p).within c, p.nonnegative c, down_of_nonnegative (entry x c) (p.nonnegative c), weight_down g x p)) ∙ ap zeros p.columns

@@ -5,9 +5,9 @@ use Rattle.std.proofs.lemmas.Option.{none-some, same_Some}
 use Rattle.std.proofs.lemmas.List.{get_or-set_same, get_or-set_other, get_or_past, set_past, take-append-le, take_all, length-replicate}
 use Rattle.mk_model.specs.CoreStates.{Pair, Way, Settle, settle, Halt, CoreState, claim_of, halt_of, start_of, new_state, phase_state, IsPairOf, IsSettled, IsFree}
 use Rattle.mk_model.specs.CoreStates.Halt.{Overflow, Full, Memory}
-use Rattle.mk_model.specs.Events.{Event, IsClaim, IsSettling, IsHalting, given_up, first_of, with_entry, with_halt, IsCause, Happens, HappenInTurn}
+use Rattle.mk_model.specs.Events.{Event, IsClaim, IsSettling, IsHalting, given_up, first_of, with_entry, with_halt, IsHaltCause, Happens, HappenInTurn}
 use Rattle.mk_model.specs.Events.Event.{Claims, Settles, Halts}
-use Rattle.mk_model.specs.Legal.{IsNext, Replays, claims_held, IsKept, IsFirstHalted, IsLegal}
+use Rattle.mk_model.specs.Legal.{IsNext, Replays, claims_held, IsHaltKept, IsFirstHalted, IsLegal}
 use Rattle.mk_model.proofs.Journals.{settled_cases, replay_push, IsPairOf-append, IsGenuineOverflow-append, Grows, moves_grow}
 
 -- ---- a place of a list of options
@@ -142,7 +142,7 @@ module _ {n : ℕ} {priority : List ℕ} {state : CoreState} (legal : IsLegal n 
         unclaimed = λ (a, e). f.unclaimed (a, (cleared state.claims worker a q e).1);
       }
 
-      kept : (halt : Halt) → IsKept state halt → IsKept new halt
+      kept : (halt : Halt) → IsHaltKept state halt → IsHaltKept new halt
       kept (Overflow stop) (f, o) = (free stop.pair f, rw grows.longer (IsGenuineOverflow-append state.basis grows.more stop f.of_basis o))
       kept (Full q) (f, (e, r)) = (free q f, rw (grows.stays e) (e, r))
       kept Memory t = t
@@ -184,18 +184,18 @@ module _ {n : ℕ} {priority : List ℕ} {state : CoreState} (legal : IsLegal n 
       free : (q : Pair) → IsFree state q → IsFree new q
       free q f = record { of_basis = f.of_basis; unsettled = f.unsettled; unclaimed = λ (a, e). f.unclaimed (a, (cleared state.claims worker a q e).1) }
 
-      from_cause : (other : Halt) → IsCause state worker other → IsKept new other
+      from_cause : (other : Halt) → IsHaltCause state worker other → IsHaltKept new other
       from_cause (Overflow stop) (e, o) = (freed stop.pair e, o)
       from_cause (Full q) (e, f) = (freed q e, f)
       from_cause Memory t = t
 
-      still : (other : Halt) → IsKept state other → IsKept new other
+      still : (other : Halt) → IsHaltKept state other → IsHaltKept new other
       still (Overflow stop) (f, o) = (free stop.pair f, o)
       still (Full q) (f, o) = (free q f, o)
       still Memory t = t
 
-      kept : (a : ℕ) (other : Halt) → ((a ≡ worker) × (halt ≡ other)) ⊎ ((a ≡ worker → ⊥) × (halt_of state a ≡ Some other)) → IsKept new other
-      kept a other (inl (_, e)) = subst (IsKept new) e (from_cause halt h.cause)
+      kept : (a : ℕ) (other : Halt) → ((a ≡ worker) × (halt ≡ other)) ⊎ ((a ≡ worker → ⊥) × (halt_of state a ≡ Some other)) → IsHaltKept new other
+      kept a other (inl (_, e)) = subst (IsHaltKept new) e (from_cause halt h.cause)
       kept a other (inr (_, e)) = still other (legal.halts_kept a other e)
 
       first : IsFirstHalted state → IsFirstHalted new

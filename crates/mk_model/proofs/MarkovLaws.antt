@@ -3,7 +3,7 @@ use Rattle.std.proofs.Common.{◌≡◌, ◌⊎◌, inl, inr, ℕ, List, length,
 use Rattle.std.proofs.lemmas.Int.{ints}
 use Rattle.std.proofs.lemmas.List.Elements.{All-weaker}
 use Rattle.mk_model.specs.Vectors.{add, subtract, negate, positive_part, negative_part, IsPoint}
-use Rattle.mk_model.specs.Lattices.{InLattice, IsGrading}
+use Rattle.mk_model.specs.Lattices.{lattice_of, InLattice, HasGrading}
 use Rattle.mk_model.specs.Orders.{standard, lead, tail, IsBelow, ComesBefore}
 use Rattle.mk_model.specs.Walks.{Joined, Members}
 use Rattle.mk_model.specs.Walks.Walk.{stay}
@@ -20,7 +20,7 @@ use Rattle.mk_model.proofs.MoveRanks.{by_move_order}
 pub tail_from_lead : (m : List ℤ) → tail m ≡ subtract (lead m) m
 tail_from_lead m = same_vectors _ _ (omega (arith, lengths)) (λ c. omega (arith, ints, columns))
 
-module _ {n : ℕ} {rows : List (List ℤ)} {w : List ℤ} (g : IsGrading n rows w) where
+module _ {n : ℕ} {rows : List (List ℤ)} {w : List ℤ} (g : HasGrading (lattice_of n rows w)) where
   -- Moves that join the ends of each move of the lattice join every fibre.
   pub joined_from_ends : {others : List ℤ → Type 0} → ((m : List ℤ) → IsMove n rows m → Joined n others (lead m) (tail m)) →
       (x y : List ℤ) → IsPoint n x → IsPoint n y → InLattice n rows (subtract x y) → Joined n others x y
@@ -46,16 +46,16 @@ module _ {n : ℕ} {rows : List (List ℤ)} {w : List ℤ} (g : IsGrading n rows
           rw s (stay q)
 
   -- the ends of each move are joined by members
-  pub ends_joined : {moves : List (List ℤ)} → IsAnswer n rows w moves → (m : List ℤ) → IsMove n rows m → Joined n (Members moves) (lead m) (tail m)
+  pub ends_joined : {moves : List (List ℤ)} → IsAnswer (lattice_of n rows w) moves → (m : List ℤ) → IsMove n rows m → Joined n (Members moves) (lead m) (tail m)
   ends_joined {moves} a = by_move_order g (λ m. Joined n (Members moves) (lead m) (tail m)) (λ m b below. from m b below (a.complete m b))
     where
       from : (m : List ℤ) → IsMove n rows m → ((v : List ℤ) → IsMove n rows v → ComesBefore n w v m → Joined n (Members moves) (lead v) (tail v)) →
-          Contains moves m ⊎ Joined n (MovesBefore n rows w m) (lead m) (tail m) → Joined n (Members moves) (lead m) (tail m)
+          Contains moves m ⊎ Joined n (MovesBefore (lattice_of n rows w) m) (lead m) (tail m) → Joined n (Members moves) (lead m) (tail m)
       from m b below (inl c) = one_step (IsMove-lead g b) (IsMove-tail g b) (m, c, inr (tail_from_lead m))
-      from m b below (inr j) = walk_replace {moves = MovesBefore n rows w m} {others = Members moves} (λ x y p q (v, (e, k), s). step_by_parts v (IsMove-columns g e) p q s (below v e k)) j
+      from m b below (inr j) = walk_replace {moves = MovesBefore (lattice_of n rows w) m} {others = Members moves} (λ x y p q (v, (e, k), s). step_by_parts v (IsMove-columns g e) p q s (below v e k)) j
 
-  pub markov_from_answer : {moves : List (List ℤ)} → IsAnswer n rows w moves → IsMarkov n rows moves
+  pub markov_from_answer : {moves : List (List ℤ)} → IsAnswer (lattice_of n rows w) moves → IsMarkov n rows moves
   markov_from_answer {moves} a = record {
-    in_lattice = All-weaker (IsEssential n rows w) (InLattice n rows) (λ m e. e.move.in_lattice) moves a.essential;
+    in_lattice = All-weaker (IsEssential (lattice_of n rows w)) (InLattice n rows) (λ m e. e.move.in_lattice) moves a.essential;
     joins = joined_from_ends {others = Members moves} (ends_joined a);
   }

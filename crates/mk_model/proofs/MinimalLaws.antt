@@ -4,7 +4,7 @@ use Rattle.std.proofs.lemmas.Int.{ints}
 use Rattle.std.proofs.lemmas.List.{get_or_default, get_or-take, get_or-drop, length-take, length-drop}
 use Rattle.std.proofs.lemmas.List.Elements.{Contains-append_cases}
 use Rattle.mk_model.specs.Vectors.{add, subtract, weight}
-use Rattle.mk_model.specs.Lattices.{InLattice, IsGrading}
+use Rattle.mk_model.specs.Lattices.{lattice_of, InLattice, HasGrading}
 use Rattle.mk_model.specs.Orders.{lead, tail, ComesBefore}
 use Rattle.mk_model.specs.Walks.{Joined}
 use Rattle.mk_model.specs.Walks.Walk.{stay, step}
@@ -22,7 +22,7 @@ IsEnd m x = (x ≡ lead m) ⊎ (x ≡ tail m)
 abbrev pub PassesBy : ℕ → (List ℤ → Type 0) → List ℤ → List ℤ → List ℤ → Type 0
 PassesBy n others m x y = (a : List ℤ) × (b : List ℤ) × IsEnd m a × IsEnd m b × Joined n others x a × Joined n others b y
 
-module _ {n : ℕ} {rows : List (List ℤ)} {w : List ℤ} (g : IsGrading n rows w) where
+module _ {n : ℕ} {rows : List (List ℤ)} {w : List ℤ} (g : HasGrading (lattice_of n rows w)) where
   -- A walk by one move and others, through points that are no heavier than the lead of that move: the others alone
   -- lead along, or they lead to an end of it and on from an end of it.
   pub avoid : {others : List ℤ → Type 0} → ((v : List ℤ) → others v → InLattice n rows v) → (m : List ℤ) → InLattice n rows m → (x y : List ℤ) →
@@ -47,7 +47,7 @@ module _ {n : ℕ} {rows : List (List ℤ)} {w : List ℤ} (g : IsGrading n rows
       go (inl o) s (inr (a, d, f, k, i, j)) = inr (a, d, f, k, step p (v, o, s) i, j)
       go (inr e) s t = inr (past (at_ends (subst (λ u. (z ≡ add x u) ⊎ (z ≡ subtract x u)) e s)) t)
 
-  module _ {moves : List (List ℤ)} (answer : IsAnswer n rows w moves) (k : ℕ) (inside : k < length moves) where
+  module _ {moves : List (List ℤ)} (answer : IsAnswer (lattice_of n rows w) moves) (k : ℕ) (inside : k < length moves) where
     abbrev at : ℕ → List ℤ
     at i = get_or moves i []
 
@@ -55,36 +55,36 @@ module _ {n : ℕ} {rows : List (List ℤ)} {w : List ℤ} (g : IsGrading n rows
     abbrev OthersBelow : ℕ → List ℤ → Type 0
     OthersBelow j v = (i : ℕ) × (i < j) × (i ≡ k → ⊥) × (v ≡ at i)
 
-    essential_at : (i : ℕ) → i < length moves → IsEssential n rows w (at i)
+    essential_at : (i : ℕ) → i < length moves → IsEssential (lattice_of n rows w) (at i)
     essential_at i l = answer.essential i [] l
 
-    before_at : (i j : ℕ) → i < j → j < length moves → MovesBefore n rows w (at j) (at i)
+    before_at : (i j : ℕ) → i < j → j < length moves → MovesBefore (lattice_of n rows w) (at j) (at i)
     before_at i j l h = ((essential_at i (omega arith)).move, answer.ascending i j [] l h)
 
     others_inside : (j : ℕ) → j ≤ length moves → (v : List ℤ) → OthersBelow j v → InLattice n rows v
     others_inside j h v (i, l, d, e) = subst (InLattice n rows) (sym e) ((essential_at i (omega arith)).move.in_lattice)
 
-    others_before : (j : ℕ) → j < length moves → (v : List ℤ) → OthersBelow j v → MovesBefore n rows w (at j) v
-    others_before j h v (i, l, d, e) = subst (MovesBefore n rows w (at j)) (sym e) (before_at i j l h)
+    others_before : (j : ℕ) → j < length moves → (v : List ℤ) → OthersBelow j v → MovesBefore (lattice_of n rows w) (at j) v
+    others_before j h v (i, l, d, e) = subst (MovesBefore (lattice_of n rows w) (at j)) (sym e) (before_at i j l h)
 
     -- the place j beyond k: its move's ends stay apart, so no walk of the others passes by them
     passed : (j : ℕ) → k < j → j < length moves → (Joined n (OthersBelow j) (lead (at k)) (tail (at k)) → ⊥) →
         PassesBy n (OthersBelow j) (at j) (lead (at k)) (tail (at k)) → ⊥
     passed j l h apart (x, y, b, c, i, r) = go b c
       where
-        there : Joined n (MovesBefore n rows w (at j)) (lead (at k)) x
+        there : Joined n (MovesBefore (lattice_of n rows w) (at j)) (lead (at k)) x
         there = walk_weaker (others_before j h) (λ v p. p) i
 
-        back : Joined n (MovesBefore n rows w (at j)) y (tail (at k))
+        back : Joined n (MovesBefore (lattice_of n rows w) (at j)) y (tail (at k))
         back = walk_weaker (others_before j h) (λ v p. p) r
 
         move_k : IsMove n rows (at k)
         move_k = (essential_at k inside).move
 
-        across : Joined n (MovesBefore n rows w (at j)) (lead (at k)) (tail (at k))
+        across : Joined n (MovesBefore (lattice_of n rows w) (at j)) (lead (at k)) (tail (at k))
         across = one_step (IsMove-lead g move_k) (IsMove-tail g move_k) (at k, before_at k j l h, inr (tail_from_lead (at k)))
 
-        x_to_y : Joined n (MovesBefore n rows w (at j)) x y
+        x_to_y : Joined n (MovesBefore (lattice_of n rows w) (at j)) x y
         x_to_y = walk_append (walk_back there) (walk_append across (walk_back back))
 
         go : IsEnd (at j) x → IsEnd (at j) y → ⊥
@@ -107,8 +107,8 @@ module _ {n : ℕ} {rows : List (List ℤ)} {w : List ℤ} (g : IsGrading n rows
         cases : (j k : ℕ) → ((j < k) ⊎ (k < j)) ⊎ (j ≡ k)
         cases j k = grind arith
 
-        before : (j ≤ k) → (v : List ℤ) → OthersBelow (suc j) v → MovesBefore n rows w (at k) v
-        before h v (i, b, d, e) = subst (MovesBefore n rows w (at k)) (sym e) (before_at i k (less i b d) inside)
+        before : (j ≤ k) → (v : List ℤ) → OthersBelow (suc j) v → MovesBefore (lattice_of n rows w) (at k) v
+        before h v (i, b, d, e) = subst (MovesBefore (lattice_of n rows w) (at k)) (sym e) (before_at i k (less i b d) inside)
           where
             less : (i : ℕ) → i < suc j → (i ≡ k → ⊥) → i < k
             less i b d = omega arith
@@ -148,5 +148,5 @@ module _ {n : ℕ} {rows : List (List ℤ)} {w : List ℤ} (g : IsGrading n rows
           not_joined = λ j. stays_apart (length moves) (omega arith) (walk_weaker others_without (λ v p. p) j);
         }
 
-  pub minimal_from_answer : {moves : List (List ℤ)} → IsAnswer n rows w moves → IsMinimal n rows moves
+  pub minimal_from_answer : {moves : List (List ℤ)} → IsAnswer (lattice_of n rows w) moves → IsMinimal n rows moves
   minimal_from_answer {moves} answer k l = (lead (get_or moves k []), tail (get_or moves k []), ends_apart answer k l)

@@ -2,14 +2,14 @@
 use Rattle.std.proofs.Common.{◌≡◌, ℕ, ◌<◌, List, length, ℤ, pos, ◌≤ℤ◌, arith, sym, subst}
 use Rattle.std.proofs.lemmas.Int.{ints}
 use Rattle.mk_model.specs.Vectors.{subtract, weight, IsPoint}
-use Rattle.mk_model.specs.Lattices.{InLattice, IsGrading}
+use Rattle.mk_model.specs.Lattices.{lattice_of, InLattice, HasGrading}
 use Rattle.mk_model.specs.Orders.{standard, lead, tail}
 use Rattle.mk_model.specs.Bases.{IsMove}
 use Rattle.mk_model.proofs.VectorAlgebra.{parts, weight-parts, IsPoint-positive_part, IsPoint-negative_part, entry_within_weight}
 use Rattle.mk_model.proofs.OrderLaws.{IsBelow-decided, standard_within}
 use Rattle.mk_model.proofs.LatticeLaws.{InLattice-columns, InLattice-weight}
 
-module _ {n : ℕ} {rows : List (List ℤ)} {w m : List ℤ} (g : IsGrading n rows w) (move : IsMove n rows m) where
+module _ {n : ℕ} {rows : List (List ℤ)} {w m : List ℤ} (g : HasGrading (lattice_of n rows w)) (move : IsMove n rows m) where
   pub IsMove-columns : length m ≡ n
   IsMove-columns = InLattice-columns n rows m g.rows_columns move.in_lattice
 

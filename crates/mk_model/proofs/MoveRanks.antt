@@ -3,7 +3,7 @@ use Rattle.std.proofs.Common.{◌≡◌, ◌⊎◌, inl, inr, ℕ, zero, suc, �
 use Rattle.std.proofs.lemmas.Int.{ints}
 use borrow.Author.Differences.{up, down}
 use Rattle.mk_model.specs.Vectors.{weight, IsPoint}
-use Rattle.mk_model.specs.Lattices.{IsGrading}
+use Rattle.mk_model.specs.Lattices.{lattice_of, HasGrading}
 use Rattle.mk_model.specs.Orders.{IsBelow, standard, lead, tail, ComesBefore}
 use Rattle.mk_model.specs.Bases.{IsMove}
 use Rattle.mk_model.proofs.VectorAlgebra.{weight_nonnegative}
@@ -33,7 +33,7 @@ by_three_numbers {X} P f g h go x =
     lower x fs y gs z hs d k u (inr (e, inr (i, l))) = hs u l (e ∙ d) (i ∙ k)
 
 -- ---- induction along the order of moves
-module _ {n : ℕ} {rows : List (List ℤ)} {w : List ℤ} (g : IsGrading n rows w) where
+module _ {n : ℕ} {rows : List (List ℤ)} {w : List ℤ} (g : HasGrading (lattice_of n rows w)) where
   pub weight_down : (x : List ℤ) → IsPoint n x → down (weight w x) ≡ 0
   weight_down x p = down_of_nonnegative (weight w x) (weight_nonnegative w x (λ c k. g.positive c (omega (arith, g.columns))) p.nonnegative)
 

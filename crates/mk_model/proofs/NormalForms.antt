@@ -4,7 +4,7 @@ use Rattle.std.proofs.lemmas.List.Elements.{All-contains, Contains-get_or}
 use Rattle.std.proofs.lemmas.Bool.{both_ways}
 use borrow.Author.Differences.{up}
 use Rattle.mk_model.specs.Vectors.{subtract, weight, IsPoint}
-use Rattle.mk_model.specs.Lattices.{InLattice}
+use Rattle.mk_model.specs.Lattices.{lattice_of, InLattice}
 use Rattle.mk_model.specs.Walks.{Members, Joined}
 use Rattle.mk_model.specs.Orders.{IsBelow, IsOriented, lead}
 use Rattle.mk_model.specs.Bases.{IsMarkov}
@@ -32,7 +32,7 @@ pub All-from_contains : (P : List ℤ → Type 0) (moves : List (List ℤ)) → 
 All-from_contains P moves f k d l = f _ (Contains-get_or moves k d l)
 
 -- by fewer moves
-pub AreOrientedMoves-fewer : {n : ℕ} {rows : List (List ℤ)} {w : List ℤ} {p : List ℕ} {moves : List (List ℤ)} (others : List (List ℤ)) → ((v : List ℤ) → Contains others v → Contains moves v) → AreOrientedMoves n rows w p moves → AreOrientedMoves n rows w p others
+pub AreOrientedMoves-fewer : {n : ℕ} {rows : List (List ℤ)} {w : List ℤ} {p : List ℕ} {moves : List (List ℤ)} (others : List (List ℤ)) → ((v : List ℤ) → Contains others v → Contains moves v) → AreOrientedMoves (lattice_of n rows w) p moves → AreOrientedMoves (lattice_of n rows w) p others
 AreOrientedMoves-fewer {n} {rows} {w} {p} {moves} others f o =
     record {
       grading = o.grading;
@@ -60,7 +60,7 @@ pub record LeastReach (moves : List (List ℤ)) (x : List ℤ) : Type 0 where
   pub reach : Reaches (IsDescent moves) x least
   pub irreducible : IsIrreducible moves least
 
-module _ {n : ℕ} {rows : List (List ℤ)} {w : List ℤ} {p : List ℕ} {moves : List (List ℤ)} (o : AreOrientedMoves n rows w p moves) where
+module _ {n : ℕ} {rows : List (List ℤ)} {w : List ℤ} {p : List ℕ} {moves : List (List ℤ)} (o : AreOrientedMoves (lattice_of n rows w) p moves) where
   lower : (W : ℤ) (t : ℕ) (x : List ℤ) → IsPoint n x → weight w x ≡ W → rank (up W) p x < t → LeastReach moves x
   lower W zero x q e l = absurd (omega arith)
   lower W (suc t) x q e l = next (lower W t) (descent_or_none moves x)
@@ -103,8 +103,8 @@ module _ {n : ℕ} {rows : List (List ℤ)} {w : List ℤ} {p : List ℕ} {moves
   irreducible_is_least markov pairs x y f q r h = reach_below r (irreducible_reached pairs x y f (markov.joins y x r q h))
 
 -- ---- a part of the moves whose leads divide all leads
-module _ {n : ℕ} {rows : List (List ℤ)} {w : List ℤ} {p : List ℕ} {moves : List (List ℤ)} (o : AreOrientedMoves n rows w p moves) (others : List (List ℤ)) (part : (v : List ℤ) → Contains others v → Contains moves v) (covers : (v : List ℤ) → Contains moves v → (u : List ℤ) × Contains others u × Divides (lead u) (lead v)) where
-  part_oriented : AreOrientedMoves n rows w p others
+module _ {n : ℕ} {rows : List (List ℤ)} {w : List ℤ} {p : List ℕ} {moves : List (List ℤ)} (o : AreOrientedMoves (lattice_of n rows w) p moves) (others : List (List ℤ)) (part : (v : List ℤ) → Contains others v → Contains moves v) (covers : (v : List ℤ) → Contains moves v → (u : List ℤ) × Contains others u × Divides (lead u) (lead v)) where
+  part_oriented : AreOrientedMoves (lattice_of n rows w) p others
   part_oriented = AreOrientedMoves-fewer others part o
 
   part_irreducible : (x : List ℤ) → IsIrreducible others x → IsIrreducible moves x

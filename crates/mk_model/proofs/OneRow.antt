@@ -2,11 +2,11 @@
 use Rattle.std.proofs.Common.{◌≡◌, ◌⊎◌, inl, inr, ℕ, zero, suc, List, [], ◌∷◌, ℤ, pos, neg_ℤ, ◌*ℤ◌, All, Contains, arith, ap, sym, ◌∙◌, subst, not}
 use Rattle.std.proofs.lemmas.List.Elements.{All-nil, All-cons, All-head, All-filter, All-contains_itself}
 use Rattle.mk_model.specs.Vectors.{entry, add, zeros, subtract, negate, scale, weight, IsPoint}
-use Rattle.mk_model.specs.Lattices.{combination, InLattice, IsGrading, is_zero, nonzero_rows}
+use Rattle.mk_model.specs.Lattices.{lattice_of, combination, InLattice, HasGrading, is_zero, nonzero_rows}
 use Rattle.mk_model.specs.Orders.{standard, IsOriented, lead, tail, ComesBefore}
 use Rattle.mk_model.specs.Walks.{Joined}
 use Rattle.mk_model.specs.Walks.Walk.{stay}
-use Rattle.mk_model.specs.Bases.{IsMove, MovesBefore, IsEssential, IsAnswer, IsMarkov, IsMinimal, IsTheAnswer}
+use Rattle.mk_model.specs.Bases.{IsMove, MovesBefore, IsEssential, IsAnswer, IsMarkov, IsMinimal, IsMinimalMarkovBasis}
 use Rattle.mk_model.proofs.Integers.{product_more}
 use Rattle.mk_model.proofs.VectorAlgebra.{parts, scale-one, scale-negate, negate-negate, positive_part-scale, weight-scale, entry-zeros, add_difference, add-zeros}
 use Rattle.mk_model.proofs.OrderLaws.{factor_is_positive, IsOriented-not_zero, IsOriented-lead_not_tail, ComesBefore-asymmetric, ComesBefore-irreflexive}
@@ -14,10 +14,10 @@ use Rattle.mk_model.proofs.WalkLaws.{walk_stays, walk_along}
 use Rattle.mk_model.proofs.LatticeLaws.{InLattice-row, InLattice-negate, combination_of_no_row, combination_of_one_row}
 use Rattle.mk_model.proofs.MoveLaws.{IsMove-columns, IsMove-lead, IsMove-tail, IsMove-ends, IsMove-lead_weight}
 use Rattle.mk_model.proofs.Lists.{Contains-none, Contains-here}
-use Rattle.mk_model.proofs.AnswerLaws.{one_answer}
+use Rattle.mk_model.proofs.AnswerLaws.{lists_essential, one_list}
 
 -- ---- every vector of the lattice is a multiple of the move m
-module _ (n : ℕ) (rows : List (List ℤ)) (w m : List ℤ) (g : IsGrading n rows w) (move : IsMove n rows m)
+module _ (n : ℕ) (rows : List (List ℤ)) (w m : List ℤ) (g : HasGrading (lattice_of n rows w)) (move : IsMove n rows m)
     (multiples : (x : List ℤ) → InLattice n rows x → (k : ℤ) × (x ≡ scale k m)) where
   multiple : (v : List ℤ) → IsMove n rows v → (j : ℕ) × (v ≡ scale (pos (suc j)) m)
   multiple v a =
@@ -31,31 +31,31 @@ module _ (n : ℕ) (rows : List (List ℤ)) (w m : List ℤ) (g : IsGrading n ro
       ap (λ v. weight w (lead v)) e ∙ ap (weight w) (positive_part-scale (suc (suc j)) m) ∙ weight-scale w (pos (suc (suc j))) (lead m) in
       inl (rw d (product_more j (weight w (lead m)) (IsMove-lead_weight g move)))
 
-  none_before : (v : List ℤ) → MovesBefore n rows w m v → ⊥
+  none_before : (v : List ℤ) → MovesBefore (lattice_of n rows w) m v → ⊥
   none_before v (a, b) = go (multiple v a)
     where
       go : (j : ℕ) × (v ≡ scale (pos (suc j)) m) → ⊥
       go (zero, e) = ComesBefore-irreflexive n w m (subst (λ v. ComesBefore n w v m) (e ∙ scale-one m) b)
       go (suc j, e) = ComesBefore-asymmetric n w m v (before_multiple j v e) b
 
-  essential_generator : IsEssential n rows w m
+  essential_generator : IsEssential (lattice_of n rows w) m
   essential_generator = record {
     move = move;
     not_joined = λ j. IsOriented-lead_not_tail (standard n) m move.oriented (walk_stays none_before j);
   }
 
-  member_or_joined : (v : List ℤ) → IsMove n rows v → Contains (m ∷ []) v ⊎ Joined n (MovesBefore n rows w v) (lead v) (tail v)
+  member_or_joined : (v : List ℤ) → IsMove n rows v → Contains (m ∷ []) v ⊎ Joined n (MovesBefore (lattice_of n rows w) v) (lead v) (tail v)
   member_or_joined v a = go (multiple v a)
     where
-      go : (j : ℕ) × (v ≡ scale (pos (suc j)) m) → Contains (m ∷ []) v ⊎ Joined n (MovesBefore n rows w v) (lead v) (tail v)
+      go : (j : ℕ) × (v ≡ scale (pos (suc j)) m) → Contains (m ∷ []) v ⊎ Joined n (MovesBefore (lattice_of n rows w) v) (lead v) (tail v)
       go (zero, e) = inl (0, omega arith, sym (e ∙ scale-one m))
       go (suc j, e) = inr (walk_along m (move, before_multiple j v e) (pos (suc (suc j))) (lead v) (tail v) (IsMove-lead g a) (IsMove-tail g a)
           (omega (arith, IsMove-columns g move)) (parts v ∙ e))
 
-  answer_of_generator : IsAnswer n rows w (m ∷ [])
+  answer_of_generator : IsAnswer (lattice_of n rows w) (m ∷ [])
   answer_of_generator = record {
     ascending = λ i j d h l. absurd (omega arith);
-    essential = All-cons (IsEssential n rows w) m [] essential_generator (All-nil (IsEssential n rows w));
+    essential = All-cons (IsEssential (lattice_of n rows w)) m [] essential_generator (All-nil (IsEssential (lattice_of n rows w)));
     complete = member_or_joined;
   }
 
@@ -78,17 +78,17 @@ module _ (n : ℕ) (rows : List (List ℤ)) (w m : List ℤ) (g : IsGrading n ro
   )
   minimal_generator (suc k) l = absurd (omega arith)
 
-  pub the_answer_of_generator : IsTheAnswer n rows w (m ∷ [])
+  pub the_answer_of_generator : IsMinimalMarkovBasis (lattice_of n rows w) (m ∷ [])
   the_answer_of_generator = record {
     answer = answer_of_generator;
-    only = λ others a. one_answer answer_of_generator a;
+    only = λ others a. one_list (lists_essential answer_of_generator) a;
     markov = markov_of_generator;
     minimal = minimal_generator;
   }
 
 -- ---- one row that is not zero
-pub the_answer_of_row : (n : ℕ) (rows : List (List ℤ)) (w row m : List ℤ) → IsGrading n rows w → nonzero_rows rows ≡ row ∷ [] →
-    (m ≡ row) ⊎ (m ≡ negate row) → IsOriented (standard n) m → IsTheAnswer n rows w (m ∷ [])
+pub the_answer_of_row : (n : ℕ) (rows : List (List ℤ)) (w row m : List ℤ) → HasGrading (lattice_of n rows w) → nonzero_rows rows ≡ row ∷ [] →
+    (m ≡ row) ⊎ (m ≡ negate row) → IsOriented (standard n) m → IsMinimalMarkovBasis (lattice_of n rows w) (m ∷ [])
 the_answer_of_row n rows w row m g e s o = the_answer_of_generator n rows w m g (record { in_lattice = inside s; oriented = o }) (λ x (f, d). all s x f d)
   where
     row_stands : Contains rows row
@@ -109,10 +109,10 @@ the_answer_of_row n rows w row m g e s o = the_answer_of_generator n rows w m g 
         (neg_ℤ k, c ∙ h ∙ ap (scale k) turned ∙ scale-negate k m)
 
 -- ---- no row that is not zero
-pub the_answer_of_no_row : (n : ℕ) (rows : List (List ℤ)) (w : List ℤ) → IsGrading n rows w → nonzero_rows rows ≡ [] → IsTheAnswer n rows w []
+pub the_answer_of_no_row : (n : ℕ) (rows : List (List ℤ)) (w : List ℤ) → HasGrading (lattice_of n rows w) → nonzero_rows rows ≡ [] → IsMinimalMarkovBasis (lattice_of n rows w) []
 the_answer_of_no_row n rows w g e = record {
   answer = answer;
-  only = λ others a. one_answer answer a;
+  only = λ others a. one_list (lists_essential answer) a;
   markov = record {
     in_lattice = All-nil (InLattice n rows);
     joins = λ x y p q h. rw (same_points x y p q h) (stay q);
@@ -126,10 +126,10 @@ the_answer_of_no_row n rows w g e = record {
     no_move : (m : List ℤ) → IsMove n rows m → ⊥
     no_move m a = IsOriented-not_zero (standard n) m (λ c. ap (λ v. entry v c) (only_zero m a.in_lattice) ∙ entry-zeros n c) a.oriented
 
-    answer : IsAnswer n rows w []
+    answer : IsAnswer (lattice_of n rows w) []
     answer = record {
       ascending = λ i j d h l. absurd (omega arith);
-      essential = All-nil (IsEssential n rows w);
+      essential = All-nil (IsEssential (lattice_of n rows w));
       complete = λ m a. absurd (no_move m a);
     }
 

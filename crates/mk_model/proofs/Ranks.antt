@@ -4,7 +4,7 @@ use Rattle.std.proofs.lemmas.Int.{ints}
 use borrow.Author.Differences.{up, down}
 use Rattle.std.proofs.Math.Nat.{pow-suc, pow-zero, mul-le-mul_right}
 use Rattle.mk_model.specs.Vectors.{entry, weight, IsPoint}
-use Rattle.mk_model.specs.Lattices.{IsGrading}
+use Rattle.mk_model.specs.Lattices.{lattice_of, HasGrading}
 use Rattle.mk_model.specs.Orders.{IsBelow}
 use Rattle.mk_model.proofs.VectorAlgebra.{entry_within_weight}
 use Rattle.std.proofs.lemmas.List.{get_or_past}
@@ -42,7 +42,7 @@ rank_below bound (c ∷ p) x y g h (inr (e, b)) =
     omega (arith, rank_below bound p x y g h b, ap (λ a. (bound - up a) * (suc bound ^ length p)) e)
 
 -- a point of a graded lattice is bounded by its weight
-pub IsBounded-weight : {n : ℕ} {rows : List (List ℤ)} {w x : List ℤ} → IsGrading n rows w → IsPoint n x → IsBounded (up (weight w x)) x
+pub IsBounded-weight : {n : ℕ} {rows : List (List ℤ)} {w x : List ℤ} → HasGrading (lattice_of n rows w) → IsPoint n x → IsBounded (up (weight w x)) x
 IsBounded-weight {n} {rows} {w} {x} g p = record { nonnegative = p.nonnegative; within = λ c. go c (cases c n) }
   where
     cases : (c n : ℕ) → (c < n) ⊎ (n ≤ c)

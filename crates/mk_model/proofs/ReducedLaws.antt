@@ -4,7 +4,7 @@ use Rattle.std.proofs.lemmas.Int.{ints}
 use Rattle.std.proofs.lemmas.List.Elements.{All-contains, All-weaker}
 use borrow.Author.Differences.{up}
 use Rattle.mk_model.specs.Vectors.{subtract, weight, IsPoint}
-use Rattle.mk_model.specs.Lattices.{InLattice, IsGrading}
+use Rattle.mk_model.specs.Lattices.{lattice_of, InLattice, HasGrading}
 use Rattle.mk_model.specs.Orders.{IsBelow, standard, lead, tail, ComesBefore}
 use Rattle.mk_model.specs.Walks.{Joined, Members}
 use Rattle.mk_model.specs.Walks.Walk.{stay, step}
@@ -23,13 +23,13 @@ use Rattle.mk_model.proofs.DivisorWeights.{divisor_cases, proper_divisor_lighter
 use Rattle.mk_model.proofs.MoveOrder.{same_from_ends}
 use Rattle.mk_model.proofs.StarLaws.{to_tail, joined_under_tail, essential_is_reduced}
 
-pub one_reduced_basis : {n : ℕ} {rows : List (List ℤ)} {w : List ℤ} {moves others : List (List ℤ)} → IsReducedBasis n rows w moves → IsReducedBasis n rows w others → moves ≡ others
+pub one_reduced_basis : {n : ℕ} {rows : List (List ℤ)} {w : List ℤ} {moves others : List (List ℤ)} → IsReducedBasis (lattice_of n rows w) moves → IsReducedBasis (lattice_of n rows w) others → moves ≡ others
 one_reduced_basis {n} {rows} {w} {moves} {others} a b =
     same_from_members (ComesBefore n w) (ComesBefore-asymmetric n w) moves others a.ascending b.ascending
     (λ z c. b.complete z (All-contains (IsReducedMove n rows) moves z a.each c))
     (λ z c. a.complete z (All-contains (IsReducedMove n rows) others z b.each c))
 
-module _ {n : ℕ} {rows : List (List ℤ)} {w : List ℤ} (g : IsGrading n rows w) where
+module _ {n : ℕ} {rows : List (List ℤ)} {w : List ℤ} (g : HasGrading (lattice_of n rows w)) where
   -- ---- one move of it
   module _ {m : List ℤ} (reduced : IsReducedMove n rows m) where
     reduced_ordered : IsBelow (standard n) reduced.to reduced.from
@@ -61,7 +61,7 @@ module _ {n : ℕ} {rows : List (List ℤ)} {w : List ℤ} (g : IsGrading n rows
             (λ e. omega (arith, ints, l, ap (weight w) e)) in
             least.none_below (tail d) (IsMove-tail g move) (same_fibre_back g (lead d) (tail d) (IsMove-ends g move)) move.oriented
 
-  pub reduced_has_essential : {moves : List (List ℤ)} → IsReducedBasis n rows w moves → (m : List ℤ) → IsEssential n rows w m → Contains moves m
+  pub reduced_has_essential : {moves : List (List ℤ)} → IsReducedBasis (lattice_of n rows w) moves → (m : List ℤ) → IsEssential (lattice_of n rows w) m → Contains moves m
   reduced_has_essential basis m e = basis.complete m (essential_is_reduced g e)
 
   -- two least vectors of one fibre are equal
@@ -83,7 +83,7 @@ module _ {n : ℕ} {rows : List (List ℤ)} {w : List ℤ} (g : IsGrading n rows
             none_below = λ u r k b. lower u (rank_of_points g u y r q (same_fibre_weight g u y r q k) b) r (same_fibre_append g x y u p q r h (same_fibre_back g u y k));
           }) h
 
-  module _ {moves : List (List ℤ)} (basis : IsReducedBasis n rows w moves) where
+  module _ {moves : List (List ℤ)} (basis : IsReducedBasis (lattice_of n rows w) moves) where
     pub member_reduced : (m : List ℤ) → Contains moves m → IsReducedMove n rows m
     member_reduced m c = All-contains (IsReducedMove n rows) moves m basis.each c
 
@@ -163,10 +163,10 @@ module _ {n : ℕ} {rows : List (List ℤ)} {w : List ℤ} (g : IsGrading n rows
     }
 
     -- each move of the lattice stands in the basis, or moves before it join its ends
-    pub member_or_joined : (v : List ℤ) → IsMove n rows v → Contains moves v ⊎ Joined n (MovesBefore n rows w v) (lead v) (tail v)
+    pub member_or_joined : (v : List ℤ) → IsMove n rows v → Contains moves v ⊎ Joined n (MovesBefore (lattice_of n rows w) v) (lead v) (tail v)
     member_or_joined v a = go (least_or_divided (lead v) (IsMove-lead g a))
       where
-        by_lighter : (m : List ℤ) → Contains moves m → Divides (lead m) (lead v) → weight w (lead m) <ℤ weight w (lead v) → Joined n (MovesBefore n rows w v) (lead v) (tail v)
+        by_lighter : (m : List ℤ) → Contains moves m → Divides (lead m) (lead v) → weight w (lead m) <ℤ weight w (lead v) → Joined n (MovesBefore (lattice_of n rows w) v) (lead v) (tail v)
         by_lighter m c d l =
             let move = member_move m c in
             let q : IsPoint n (subtract (lead v) m) = IsPoint-lower m (IsMove-lead g a) (omega (arith, IsMove-columns g move)) d in
@@ -177,14 +177,14 @@ module _ {n : ℕ} {rows : List (List ℤ)} {w : List ℤ} (g : IsGrading n rows
             (IsBelow-subtract (standard n) (lead v) m move.oriented) (one_step (IsMove-lead g a) q (m, (move, inl l), inr refl))
 
         tails : (m : List ℤ) (c : Contains moves m) → lead m ≡ lead v → IsLeast n rows (tail m) → InLattice n rows (subtract (tail v) (tail m)) →
-            (IsBelow (standard n) (tail m) (tail v) ⊎ IsBelow (standard n) (tail v) (tail m)) ⊎ (tail m ≡ tail v) → Contains moves v ⊎ Joined n (MovesBefore n rows w v) (lead v) (tail v)
+            (IsBelow (standard n) (tail m) (tail v) ⊎ IsBelow (standard n) (tail v) (tail m)) ⊎ (tail m ≡ tail v) → Contains moves v ⊎ Joined n (MovesBefore (lattice_of n rows w) v) (lead v) (tail v)
         tails m c e least h (inl (inl b)) =
             inr (to_tail g a (tail m) (same_fibre_back g (tail v) (tail m) h) (IsBelow-transitive (standard n) (tail m) (tail v) (lead v) b a.oriented)
             (joined_under_tail g a (tail m) least.point (same_fibre_append g (lead v) (tail v) (tail m) (IsMove-lead g a) (IsMove-tail g a) least.point (IsMove-ends g a) h) b))
         tails m c e least h (inl (inr b)) = absurd (least.none_below (tail v) (IsMove-tail g a) h b)
         tails m c e least h (inr d) = inl (subst (Contains moves) (same_from_ends m v e d) c)
 
-        by_same_lead : (m : List ℤ) → Contains moves m → lead m ≡ lead v → Contains moves v ⊎ Joined n (MovesBefore n rows w v) (lead v) (tail v)
+        by_same_lead : (m : List ℤ) → Contains moves m → lead m ≡ lead v → Contains moves v ⊎ Joined n (MovesBefore (lattice_of n rows w) v) (lead v) (tail v)
         by_same_lead m c e =
             let move = member_move m c in
             let reduced = member_reduced m c in
@@ -193,15 +193,15 @@ module _ {n : ℕ} {rows : List (List ℤ)} {w : List ℤ} (g : IsGrading n rows
             let h = same_fibre_append g (tail v) (lead v) (tail m) (IsMove-tail g a) (IsMove-lead g a) least.point (same_fibre_back g (lead v) (tail v) (IsMove-ends g a)) ends in
             tails m c e least h (total_points g (tail m) (tail v) least.point (IsMove-tail g a))
 
-        go : IsLeast n rows (lead v) ⊎ ((m : List ℤ) × Contains moves m × Divides (lead m) (lead v)) → Contains moves v ⊎ Joined n (MovesBefore n rows w v) (lead v) (tail v)
+        go : IsLeast n rows (lead v) ⊎ ((m : List ℤ) × Contains moves m × Divides (lead m) (lead v)) → Contains moves v ⊎ Joined n (MovesBefore (lattice_of n rows w) v) (lead v) (tail v)
         go (inl l) = absurd (l.none_below (tail v) (IsMove-tail g a) (same_fibre_back g (lead v) (tail v) (IsMove-ends g a)) a.oriented)
         go (inr (m, c, d)) =
             ⊎_elim (λ l. inr (by_lighter m c d l)) (by_same_lead m c)
             (divisor_cases g (lead v) (lead m) (IsMove-lead g a) (IsMove-lead g (member_move m c)) d)
 
     -- The members that are essential, ascending, are the answer, if moves before each of the others join its ends.
-    pub answer_from_reduced : {chosen : List (List ℤ)} → AllPairs (ComesBefore n w) chosen → All (IsEssential n rows w) chosen →
-        ((m : List ℤ) → Contains moves m → Contains chosen m ⊎ Joined n (MovesBefore n rows w m) (lead m) (tail m)) → IsAnswer n rows w chosen
+    pub answer_from_reduced : {chosen : List (List ℤ)} → AllPairs (ComesBefore n w) chosen → All (IsEssential (lattice_of n rows w)) chosen →
+        ((m : List ℤ) → Contains moves m → Contains chosen m ⊎ Joined n (MovesBefore (lattice_of n rows w) m) (lead m) (tail m)) → IsAnswer (lattice_of n rows w) chosen
     answer_from_reduced ascending essential others = record {
       ascending = ascending;
       essential = essential;

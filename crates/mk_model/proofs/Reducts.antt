@@ -13,6 +13,7 @@ use Rattle.mk_model.proofs.WalkLaws.{walk_append, walk_weaker}
 use Rattle.mk_model.proofs.Translation.{walk_turned}
 use Rattle.mk_model.proofs.Divisors.{lcm_at, lcm_divides, Divides-transitive, Divides-lcm_first, Divides-lcm_second, Divides-positive_part, Divides-negative_part}
 use Rattle.mk_model.proofs.Confluence.{reaches_append, descent_walk, member_columns, descent_point, reach_point, joined_under, lcm_point, lcm_descent_first, lcm_descent_second, point_below_from_descent, point_below_descent}
+use Rattle.mk_model.specs.Lattices.{lattice_of}
 
 -- two points, and steps down from two others to them
 pub record StepDownTo (moves : List (List ℤ)) (n : ℕ) (a b r : List ℤ) : Type 0 where
@@ -42,7 +43,7 @@ Reduct-append moves more r s d = reduct_weaker (Contains-append_left moves more)
 pub JoinedBelow-append : (n : ℕ) (p : List ℕ) (moves more : List (List ℤ)) (a b : List ℤ) → JoinedBelow n p moves a b → JoinedBelow n p (moves ++ more) a b
 JoinedBelow-append n p moves more a b walk = joined_below_weaker n p moves (moves ++ more) a b (Contains-append_left moves more) walk
 
-module _ {n : ℕ} {rows : List (List ℤ)} {w : List ℤ} {p : List ℕ} {moves : List (List ℤ)} (o : AreOrientedMoves n rows w p moves) where
+module _ {n : ℕ} {rows : List (List ℤ)} {w : List ℤ} {p : List ℕ} {moves : List (List ℤ)} (o : AreOrientedMoves (lattice_of n rows w) p moves) where
   -- steps down from both ends of a walk below a vector, to one vector
   pub joined_from_meet : {top a b : List ℤ} → IsPointBelow n p top a → IsPointBelow n p top b → Meet moves a b → Walk (Members moves) (IsPointBelow n p top) a b
   joined_from_meet q r m =

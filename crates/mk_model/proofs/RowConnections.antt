@@ -5,7 +5,7 @@ use Rattle.std.proofs.lemmas.Bool.{both_ways}
 use Rattle.std.proofs.lemmas.List.Elements.{All-head, All-tail}
 use lib.IntN.{*ℤ-zero}
 use Rattle.mk_model.specs.Vectors.{entry, zeros, add, subtract, negate, scale, positive_part, negative_part, IsPoint}
-use Rattle.mk_model.specs.Lattices.{combination, IsGrading}
+use Rattle.mk_model.specs.Lattices.{lattice_of, combination, HasGrading}
 use Rattle.mk_model.specs.Walks.{Members, Joined}
 use Rattle.mk_model.specs.Walks.Walk.{stay}
 use Rattle.mk_model.specs.Saturation.{every_column, JoinedUpTo, ConnectedUpTo}
@@ -79,5 +79,5 @@ rows_connect n moves (row ∷ rows) a f factors x y q r e =
     row_added n moves row (combination n (λ i. factors (suc i)) rows) (All-head (λ row. length row ≡ n) row rows a) (length-combination n (λ i. factors (suc i)) rows b) (f row (Contains-here row rows)) (factors 0) x y q r e
     (λ u v s t d. rows_connect n moves rows b (λ row h. f row (Contains-there _ rows row h)) (λ i. factors (suc i)) u v s t d)
 
-pub connected_by_rows : {n : ℕ} {rows : List (List ℤ)} {w : List ℤ} → IsGrading n rows w → (moves : List (List ℤ)) → ((row : List ℤ) → Contains rows row → IsSignedRow moves row) → ConnectedUpTo n rows every_column moves
+pub connected_by_rows : {n : ℕ} {rows : List (List ℤ)} {w : List ℤ} → HasGrading (lattice_of n rows w) → (moves : List (List ℤ)) → ((row : List ℤ) → Contains rows row → IsSignedRow moves row) → ConnectedUpTo n rows every_column moves
 connected_by_rows {n} {rows} g moves f x y q r (factors, e) = rows_connect n moves rows g.rows_columns f factors x y q r e

@@ -4,7 +4,7 @@ use Rattle.std.proofs.lemmas.List.{get_or-replicate, length-replicate}
 use Rattle.std.proofs.lemmas.List.Elements.{All-nil, All-cons}
 use Rattle.std.proofs.lemmas.Int.{ints}
 use Rattle.mk_model.specs.Vectors.{entry, combine, add, scale, weight}
-use Rattle.mk_model.specs.Lattices.{combination, InLattice, IsGrading, ones}
+use Rattle.mk_model.specs.Lattices.{lattice_of, combination, InLattice, HasGrading, ones}
 use Rattle.mk_model.specs.ChosenGradings.{IsGradeOf}
 use Rattle.mk_model.specs.Tables.{Grid}
 
@@ -13,7 +13,7 @@ unfolding combination combine add scale
 in_lattice = ((λ i. pos 1), refl)
 
 -- all ones are a grading of rows of sum 0
-pub graded_by_ones : (n : ℕ) (rows : List (List ℤ)) → All (λ row. length row ≡ n) rows → All (λ row. weight (ones n) row ≡ pos 0) rows → IsGrading n rows (ones n)
+pub graded_by_ones : (n : ℕ) (rows : List (List ℤ)) → All (λ row. length row ≡ n) rows → All (λ row. weight (ones n) row ≡ pos 0) rows → HasGrading (lattice_of n rows (ones n))
 graded_by_ones n rows columns sums = record {
   columns = length-replicate n (pos 1);
   positive = λ c l. rw (get_or-replicate n c (pos 1) (pos 0) l) (omega (arith, ints));
@@ -56,7 +56,7 @@ at_least_one (suc zero) l = omega (arith, ints)
 at_least_one (suc (suc zero)) l = omega (arith, ints)
 at_least_one (suc (suc (suc c))) l = absurd (omega arith)
 
-pub grading : IsGrading 3 (third ∷ fourth ∷ []) weights
+pub grading : HasGrading (lattice_of 3 (third ∷ fourth ∷ []) weights)
 unfolding weight
 grading = record {
   columns = refl;

@@ -1,7 +1,7 @@
 -- Markov bases, and the one that is written. (Sturmfels, chapter 5: Theorem 5.3 and minimal generators)
-use Rattle.std.specs.Prelude.{◌≡◌, ◌⊎◌, ℕ, suc, ◌<◌, List, ◌++◌, length, take, drop, All, AllPairs, Contains, ℤ}
+use Rattle.std.specs.Prelude.{◌≡◌, ◌⊎◌, ◌↔◌, ℕ, suc, ◌<◌, List, ◌++◌, length, take, drop, All, AllPairs, Contains, ℤ}
 use Rattle.mk_model.specs.Vectors.{subtract, IsPoint}
-use Rattle.mk_model.specs.Lattices.{InLattice}
+use Rattle.mk_model.specs.Lattices.{Lattice, InLattice}
 use Rattle.mk_model.specs.Walks.{Joined, Members}
 use Rattle.mk_model.specs.Orders.{standard, IsOriented, lead, tail, ComesBefore}
 
@@ -31,24 +31,31 @@ pub record IsMove (n : ℕ) (rows : List (List ℤ)) (m : List ℤ) : Type 0 whe
   pub oriented : IsOriented (standard n) m
 
 -- the moves of the lattice that come before m
-abbrev pub MovesBefore : ℕ → List (List ℤ) → List ℤ → List ℤ → List ℤ → Type 0
-MovesBefore n rows w m v = IsMove n rows v × ComesBefore n w v m
+abbrev pub MovesBefore : Lattice → List ℤ → List ℤ → Type 0
+MovesBefore lattice m v = IsMove lattice.columns lattice.rows v × ComesBefore lattice.columns lattice.grading v m
 
 -- all moves before m together don't join its lead to its tail
-pub record IsEssential (n : ℕ) (rows : List (List ℤ)) (w m : List ℤ) : Type 0 where
-  pub move : IsMove n rows m
-  pub not_joined : ¬ (Joined n (MovesBefore n rows w m) (lead m) (tail m))
+pub record IsEssential (lattice : Lattice) (m : List ℤ) : Type 0 where
+  pub move : IsMove lattice.columns lattice.rows m
+  pub not_joined : ¬ (Joined lattice.columns (MovesBefore lattice m) (lead m) (tail m))
 
 -- The list has exactly the essential moves, strictly ascending. `complete` says of each move that it is a member
 -- or not essential, with a walk that shows it.
-pub record IsAnswer (n : ℕ) (rows : List (List ℤ)) (w : List ℤ) (moves : List (List ℤ)) : Type 0 where
-  pub ascending : AllPairs (ComesBefore n w) moves
-  pub essential : All (IsEssential n rows w) moves
-  pub complete : (m : List ℤ) → IsMove n rows m → Contains moves m ⊎ Joined n (MovesBefore n rows w m) (lead m) (tail m)
+pub record IsAnswer (lattice : Lattice) (moves : List (List ℤ)) : Type 0 where
+  pub ascending : AllPairs (ComesBefore lattice.columns lattice.grading) moves
+  pub essential : All (IsEssential lattice) moves
+  pub complete : (m : List ℤ) → IsMove lattice.columns lattice.rows m →
+      Contains moves m ⊎ Joined lattice.columns (MovesBefore lattice m) (lead m) (tail m)
 
--- The moves are the one answer there is for rows and grading. They join every fibre, and each of them is needed.
-pub record IsTheAnswer (n : ℕ) (rows : List (List ℤ)) (w : List ℤ) (moves : List (List ℤ)) : Type 0 where
-  pub answer : IsAnswer n rows w moves
-  pub only : (others : List (List ℤ)) → IsAnswer n rows w others → others ≡ moves
-  pub markov : IsMarkov n rows moves
-  pub minimal : IsMinimal n rows moves
+-- The list has exactly the essential moves, strictly ascending: its members are those, and no others.
+pub record ListsEssentialMoves (lattice : Lattice) (moves : List (List ℤ)) : Type 0 where
+  pub ascending : AllPairs (ComesBefore lattice.columns lattice.grading) moves
+  pub members : (m : List ℤ) → Contains moves m ↔ IsEssential lattice m
+
+-- The moves are the essential ones, and no other list has exactly these in their order. They join every fibre, and each of them
+-- is needed.
+pub record IsMinimalMarkovBasis (lattice : Lattice) (moves : List (List ℤ)) : Type 0 where
+  pub answer : IsAnswer lattice moves
+  pub only : (others : List (List ℤ)) → ListsEssentialMoves lattice others → others ≡ moves
+  pub markov : IsMarkov lattice.columns lattice.rows moves
+  pub minimal : IsMinimal lattice.columns lattice.rows moves

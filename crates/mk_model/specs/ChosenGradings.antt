@@ -4,8 +4,8 @@ use Rattle.std.specs.Prelude.{◌≡◌, ◌≢◌, ◌⊎◌, ℕ, not, List, [
 use Rattle.std.specs.List.{list_all}
 use Rattle.std.specs.Int.{is_negative}
 use Rattle.mk_model.specs.Vectors.{zeros, add, weight}
-use Rattle.mk_model.specs.Lattices.{ones}
-use Rattle.mk_model.specs.Tables.{Grid, rows_of}
+use Rattle.mk_model.specs.Lattices.{ones, HasGrading}
+use Rattle.mk_model.specs.Tables.{Grid, rows_of, lattice_of_table}
 
 -- what an entry of a matrix or of a grade may be
 abbrev pub IsSmallEntry : ℤ → Type 0
@@ -22,6 +22,10 @@ IsOrthogonal lat w = All (λ row. weight w row ≡ pos 0) (rows_of lat)
 -- w has a product other than 0 with some lattice row
 abbrev pub HasNonzeroProduct : Grid → List ℤ → Type 0
 HasNonzeroProduct lat w = Any (λ row. weight w row ≢ pos 0) (rows_of lat)
+
+-- w is a grading of the lattice that the rows span
+abbrev pub IsGradingOf : Grid → List ℤ → Type 0
+IsGradingOf lat w = HasGrading (lattice_of_table lat w)
 
 -- the first lattice row whose product with w isn't 0, and that product
 pub record IsFirstProduct (lat : Grid) (w : List ℤ) (lat_row : ℕ) (value : ℤ) : Type 0 where

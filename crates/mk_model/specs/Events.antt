@@ -85,10 +85,10 @@ pub record IsSettling (n : ℕ) (priority : List ℕ) (state : CoreState) (worke
   pub changed : after ≡ with_entry state worker pair way moves
 
 -- the cause of a halt
-abbrev pub IsCause : CoreState → ℕ → Halt → Type 0
-IsCause state worker (Overflow stop) = (claim_of state worker ≡ Some stop.pair) × IsGenuineOverflow state.basis stop
-IsCause state worker (Full pair) = (claim_of state worker ≡ Some pair) × IsFull state pair
-IsCause state worker Memory = Unit {0}
+abbrev pub IsHaltCause : CoreState → ℕ → Halt → Type 0
+IsHaltCause state worker (Overflow stop) = (claim_of state worker ≡ Some stop.pair) × IsGenuineOverflow state.basis stop
+IsHaltCause state worker (Full pair) = (claim_of state worker ≡ Some pair) × IsFull state pair
+IsHaltCause state worker Memory = Unit {0}
 
 -- how many claims a worker gives up: one, or none where it has none
 abbrev pub given_up : Option Pair → ℕ
@@ -113,7 +113,7 @@ with_halt state worker halt = record state {
 pub record IsHalting (state : CoreState) (worker : ℕ) (halt : Halt) (after : CoreState) : Type 0 where
   pub worker_within : worker < state.workers
   pub no_halt : halt_of state worker ≡ None
-  pub cause : IsCause state worker halt
+  pub cause : IsHaltCause state worker halt
   pub changed : after ≡ with_halt state worker halt
 
 -- the event is allowed in a state, and changes it to the other

@@ -4,6 +4,15 @@ use Rattle.std.specs.List.{list_all}
 use Rattle.std.specs.Ordering.{int_eq}
 use Rattle.mk_model.specs.Vectors.{entry, zeros, add, scale, weight}
 
+-- a lattice with a grading: how many columns its vectors have, rows that span it, and a weight for each column
+pub record Lattice : Type 0 where
+  pub columns : ℕ
+  pub rows : List (List ℤ)
+  pub grading : List ℤ
+
+abbrev pub lattice_of : ℕ → List (List ℤ) → List ℤ → Lattice
+lattice_of n rows w = record { columns = n; rows = rows; grading = w }
+
 -- the sum of the rows, each taken as often as its factor says
 unfoldable pub combination : ℕ → (ℕ → ℤ) → List (List ℤ) → List ℤ
 combination n factors [] = zeros n
@@ -13,12 +22,12 @@ combination n factors (row ∷ rows) = add (scale (factors zero) row) (combinati
 abbrev pub InLattice : ℕ → List (List ℤ) → List ℤ → Type 0
 InLattice n rows x = (factors : ℕ → ℤ) × (x ≡ combination n factors rows)
 
--- w has an entry of at least 1 for each of the n columns, and product 0 with each row: every fibre is finite
-pub record IsGrading (n : ℕ) (rows : List (List ℤ)) (w : List ℤ) : Type 0 where
-  pub columns : length w ≡ n
-  pub positive : (c : ℕ) → c < n → pos 1 ≤ℤ entry w c
-  pub rows_columns : All (λ row. length row ≡ n) rows
-  pub rows_weight : All (λ row. weight w row ≡ pos 0) rows
+-- The grading has a weight of at least 1 for each column, and product 0 with each row.
+pub record HasGrading (lattice : Lattice) : Type 0 where
+  pub columns : length lattice.grading ≡ lattice.columns
+  pub positive : (c : ℕ) → c < lattice.columns → pos 1 ≤ℤ entry lattice.grading c
+  pub rows_columns : All (λ row. length row ≡ lattice.columns) lattice.rows
+  pub rows_weight : All (λ row. weight lattice.grading row ≡ pos 0) lattice.rows
 
 abbrev pub ones : ℕ → List ℤ
 ones n = replicate n (pos 1)

@@ -25,10 +25,10 @@ claims_held (None ∷ claims) = claims_held claims
 claims_held (Some pair ∷ claims) = suc (claims_held claims)
 
 -- a kept halt has its cause, and its pair is free
-abbrev pub IsKept : CoreState → Halt → Type 0
-IsKept state (Overflow stop) = IsFree state stop.pair × IsGenuineOverflow state.basis stop
-IsKept state (Full pair) = IsFree state pair × IsFull state pair
-IsKept state Memory = Unit {0}
+abbrev pub IsHaltKept : CoreState → Halt → Type 0
+IsHaltKept state (Overflow stop) = IsFree state stop.pair × IsGenuineOverflow state.basis stop
+IsHaltKept state (Full pair) = IsFree state pair × IsFull state pair
+IsHaltKept state Memory = Unit {0}
 
 -- no worker has a halt, or the first is the halt of a worker
 abbrev pub IsFirstHalted : CoreState → Type 0
@@ -49,7 +49,7 @@ pub record IsLegal (n : ℕ) (priority : List ℕ) (state : CoreState) : Type 0 
   pub claims_within : state.claims_made ≤ state.budget
   pub halts_by_workers : length state.halts ≡ state.workers
   pub halted_without_claim : (worker : ℕ) (halt : Halt) → halt_of state worker ≡ Some halt → claim_of state worker ≡ None
-  pub halts_kept : (worker : ℕ) (halt : Halt) → halt_of state worker ≡ Some halt → IsKept state halt
+  pub halts_kept : (worker : ℕ) (halt : Halt) → halt_of state worker ≡ Some halt → IsHaltKept state halt
   pub first_halted : IsFirstHalted state
 
 -- every pair of the basis is settled, and no worker has a claim

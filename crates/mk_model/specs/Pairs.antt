@@ -2,15 +2,15 @@
 -- vectors; Sturmfels, chapters 1 and 5)
 use Rattle.std.specs.Prelude.{◌≡◌, ◌⊎◌, ℕ, List, All, AllPairs, ℤ, pos}
 use Rattle.mk_model.specs.Vectors.{entry, subtract, IsPoint}
-use Rattle.mk_model.specs.Lattices.{InLattice, IsGrading}
+use Rattle.mk_model.specs.Lattices.{Lattice, InLattice, HasGrading}
 use Rattle.mk_model.specs.Walks.{Walk, Members}
 use Rattle.mk_model.specs.Orders.{IsBelow, IsOriented, lead}
 use Rattle.mk_model.specs.Reductions.{lcm}
 
 -- moves of a lattice with a grading, each oriented by the priority list
-pub record AreOrientedMoves (n : ℕ) (rows : List (List ℤ)) (w : List ℤ) (priority : List ℕ) (moves : List (List ℤ)) : Type 0 where
-  pub grading : IsGrading n rows w
-  pub in_lattice : All (InLattice n rows) moves
+pub record AreOrientedMoves (lattice : Lattice) (priority : List ℕ) (moves : List (List ℤ)) : Type 0 where
+  pub grading : HasGrading lattice
+  pub in_lattice : All (InLattice lattice.columns lattice.rows) moves
   pub oriented : All (IsOriented priority) moves
 
 -- a nonnegative vector that is below another

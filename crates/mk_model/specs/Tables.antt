@@ -4,6 +4,7 @@ use Rattle.std.specs.Prelude.{◌≡◌, ◌⊎◌, ℕ, zero, suc, ◌*◌, ◌
 use Rattle.std.specs.List.{AllPass, AllZip}
 use Rattle.std.specs.Char.{is_ascii_digit}
 use Rattle.std.specs.Str.Parse.{digits_value}
+use Rattle.mk_model.specs.Lattices.{Lattice, lattice_of}
 
 -- white space: the bytes 9 to 13, and 32
 abbrev pub is_space : ℕ → Bool
@@ -55,6 +56,10 @@ cut (suc rows) columns entries = take columns entries ∷ cut rows columns (drop
 
 abbrev pub rows_of : Grid → List (List ℤ)
 rows_of grid = cut grid.rows grid.columns grid.entries
+
+-- the lattice that the rows span, with a grading
+abbrev pub lattice_of_table : Grid → List ℤ → Lattice
+lattice_of_table grid w = lattice_of grid.columns (rows_of grid) w
 
 -- what a table may have at most, and its entries at least and at most
 pub record Limits : Type 0 where

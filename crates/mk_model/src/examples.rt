@@ -2,11 +2,11 @@
 
 ghost use Rattle.std.specs.Prelude.{◌≡◌, [], ◌∷◌, ◌++◌, None, Some, All, AllPairs, pos, neg_ℤ, codes};
 ghost use Rattle.mk_model.specs.Vectors.{zeros, positive_part, negative_part, weight};
-ghost use Rattle.mk_model.specs.Lattices.{InLattice, IsGrading, nonzero_rows, ones};
+ghost use Rattle.mk_model.specs.Lattices.{lattice_of, InLattice, HasGrading, nonzero_rows, ones};
 ghost use Rattle.mk_model.specs.ChosenGradings.{IsGradeOf};
 ghost use Rattle.mk_model.specs.Walks.{Joined, Members};
 ghost use Rattle.mk_model.specs.Orders.{standard, IsOriented, IsBelow, ComesBefore};
-ghost use Rattle.mk_model.specs.Bases.{IsMarkov, AreApart, IsTheAnswer};
+ghost use Rattle.mk_model.specs.Bases.{IsMarkov, AreApart, IsMinimalMarkovBasis};
 ghost use Rattle.mk_model.specs.Tables.{tokens, Grid, rows_of, Limits, ReadsTable};
 ghost use Rattle.mk_model.specs.TableFaults.{line_of, HasFault};
 ghost use Rattle.mk_model.specs.TableFaults.{NoHeader, BadNumber, Rows, Columns, EntryRange, Missing, Trailing};
@@ -35,8 +35,8 @@ pub fn vector_examples()
     ensures chosen_grade { IsGradeOf
         (record { rows = 2; columns = 3; entries = pos 1 ∷ neg_ℤ (pos 2) ∷ pos 1 ∷ pos 3 ∷ neg_ℤ (pos 1) ∷ neg_ℤ (pos 1) ∷ [] })
         None (Some (record { rows = 1; columns = 3; entries = pos 3 ∷ pos 4 ∷ pos 5 ∷ [] })) (pos 3 ∷ pos 4 ∷ pos 5 ∷ []) }
-    ensures grading { IsGrading 3
-        ((pos 1 ∷ neg_ℤ (pos 2) ∷ pos 1 ∷ []) ∷ (pos 3 ∷ neg_ℤ (pos 1) ∷ neg_ℤ (pos 1) ∷ []) ∷ []) (pos 3 ∷ pos 4 ∷ pos 5 ∷ []) }
+    ensures grading { HasGrading (lattice_of 3
+        ((pos 1 ∷ neg_ℤ (pos 2) ∷ pos 1 ∷ []) ∷ (pos 3 ∷ neg_ℤ (pos 1) ∷ neg_ℤ (pos 1) ∷ []) ∷ []) (pos 3 ∷ pos 4 ∷ pos 5 ∷ [])) }
 {}
 
 /// `(1 -1)` joins `(2 0)` and `(0 2)`, and without it `(1 0)` and `(0 1)` are apart. The rows of the twisted cubic don't
@@ -70,12 +70,12 @@ pub fn order_examples()
 
 /// The answers for the rows `(2 -2)` and `(-1 1 1 -1 1 -1 -1 1)`, and for a row of zeros.
 pub fn answer_examples()
-    ensures of_two_columns { IsTheAnswer 2 ((pos 2 ∷ neg_ℤ (pos 2) ∷ []) ∷ []) (ones 2)
+    ensures of_two_columns { IsMinimalMarkovBasis (lattice_of 2 ((pos 2 ∷ neg_ℤ (pos 2) ∷ []) ∷ []) (ones 2))
         ((pos 2 ∷ neg_ℤ (pos 2) ∷ []) ∷ []) }
-    ensures negated { IsTheAnswer 8
-        ((neg_ℤ (pos 1) ∷ pos 1 ∷ pos 1 ∷ neg_ℤ (pos 1) ∷ pos 1 ∷ neg_ℤ (pos 1) ∷ neg_ℤ (pos 1) ∷ pos 1 ∷ []) ∷ []) (ones 8)
+    ensures negated { IsMinimalMarkovBasis (lattice_of 8
+        ((neg_ℤ (pos 1) ∷ pos 1 ∷ pos 1 ∷ neg_ℤ (pos 1) ∷ pos 1 ∷ neg_ℤ (pos 1) ∷ neg_ℤ (pos 1) ∷ pos 1 ∷ []) ∷ []) (ones 8))
         ((pos 1 ∷ neg_ℤ (pos 1) ∷ neg_ℤ (pos 1) ∷ pos 1 ∷ neg_ℤ (pos 1) ∷ pos 1 ∷ pos 1 ∷ neg_ℤ (pos 1) ∷ []) ∷ []) }
-    ensures of_zeros { IsTheAnswer 3 ((pos 0 ∷ pos 0 ∷ pos 0 ∷ []) ∷ []) (ones 3) [] }
+    ensures of_zeros { IsMinimalMarkovBasis (lattice_of 3 ((pos 0 ∷ pos 0 ∷ pos 0 ∷ []) ∷ []) (ones 3)) [] }
 {}
 
 /// A text with its tokens and its table, and two texts without a table.

@@ -11,7 +11,7 @@ use Rattle.mk_model.specs.Vectors.{entry, zeros, negate, positive_part, negative
 use Rattle.mk_model.specs.Orders.{IsOriented}
 use Rattle.mk_model.proofs.VectorAlgebra.{entry-positive_part, entry-negative_part, entry-negate, entry-zeros, length-negate}
 use Rattle.mk_model.proofs.OrderLaws.{IsOriented-not_zero}
-use Rattle.mk_move.specs.Moves.{first_along, Weighed, IsKept, IsRowOriented}
+use Rattle.mk_move.specs.Moves.{first_along, Weighed, IsMoveKept, IsRowOriented}
 use Rattle.mk_move.specs.Priorities.{IsPriority}
 
 IsEntry-max : (a : ℤ) → IsEntry a → IsEntry (int_max a (pos 0))
@@ -127,7 +127,7 @@ All-oriented row p entries h k =
       | inr e ↦ subst (All IsEntry) (sym e) (All-negate row k)
     ]
 
-pub IsKept-oriented : (row : List ℤ) (p : List ℕ) (m : Weighed) → length row ≤ 512 → IsRowOriented row p m.entries → All IsEntry row → IsKept m
+pub IsKept-oriented : (row : List ℤ) (p : List ℕ) (m : Weighed) → length row ≤ 512 → IsRowOriented row p m.entries → All IsEntry row → IsMoveKept m
 IsKept-oriented row p m few h k = record {
   columns = omega (arith, length-oriented row p m.entries h);
   not_zero = λ z. IsOriented-not_zero p m.entries (λ c. ap (λ x. entry x c) z ∙ entry-zeros (length m.entries) c) h.oriented;

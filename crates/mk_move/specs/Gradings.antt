@@ -19,6 +19,6 @@ pub record IsFirstOutside (weights : List ℤ) (column : ℕ) (value : ℤ) : Ty
   pub before : All IsWeight (take column weights)
 
 -- why these weights are refused: no cause is given for want of memory
-abbrev pub IsRefused : List ℤ → GradingFault → Type 0
-IsRefused weights Memory = Unit {0}
-IsRefused weights (NotInRange column value) = IsFirstOutside weights column value
+abbrev pub IsGradingFault : List ℤ → GradingFault → Type 0
+IsGradingFault weights Memory = Unit {0}
+IsGradingFault weights (NotInRange column value) = IsFirstOutside weights column value

@@ -1,17 +1,18 @@
 -- Lists of moves: by themselves, and with the grading and the priority list that they belong to.
 use Rattle.std.specs.Prelude.{◌≡◌, ℕ, ◌<◌, ◌^◌, List, length, map, All, ℤ, Option, None, Some}
+use Rattle.mk_model.specs.Lattices.{Lattice, lattice_of}
 use Rattle.mk_model.specs.Orders.{IsOriented}
 use Rattle.mk_move.specs.Gradings.{AreWeights}
 use Rattle.mk_move.specs.Moves.{Weighed, IsGraded}
 use Rattle.mk_move.specs.Priorities.{IsPriority}
 
 -- a list of moves of so many columns
-pub record TheList : Type 0 where
+pub record MoveListView : Type 0 where
   pub columns : ℕ
   pub moves : List Weighed
 
 -- the moves in their order, the priority list and the grading
-pub record TheBasis : Type 0 where
+pub record BasisView : Type 0 where
   pub moves : List Weighed
   pub priority : List ℕ
   pub grading : List ℤ
@@ -23,7 +24,7 @@ pub record BelongsTo (p : List ℕ) (w : List ℤ) (m : Weighed) : Type 0 where
   pub oriented : IsOriented p m.entries
 
 -- fewer than 2^32 moves, each of which belongs to the list and the grading
-pub record IsBasis (basis : TheBasis) : Type 0 where
+pub record IsBasis (basis : BasisView) : Type 0 where
   pub priority : IsPriority basis.priority
   pub grading : AreWeights basis.grading
   pub columns : length basis.priority ≡ length basis.grading
@@ -38,3 +39,7 @@ vectors_of moves = map (λ m. m.entries) moves
 abbrev pub vector_of : Option Weighed → Option (List ℤ)
 vector_of None = None
 vector_of (Some m) = Some m.entries
+
+-- the lattice that the moves of a basis span, with its grading
+abbrev pub lattice_spanned : BasisView → Lattice
+lattice_spanned basis = lattice_of (length basis.grading) (vectors_of basis.moves) basis.grading

@@ -13,7 +13,7 @@ pub record Weighed : Type 0 where
   pub weight : ℤ
 
 -- at most 512 columns, not zero, and entries in range
-pub record IsKept (m : Weighed) : Type 0 where
+pub record IsMoveKept (m : Weighed) : Type 0 where
   pub columns : length m.entries ≤ 512
   pub not_zero : m.entries ≢ zeros (length m.entries)
   pub entries : All IsEntry m.entries

@@ -24,9 +24,9 @@ pub struct Basis {
 }
 
 impl Model for Basis {
-    ghost use Rattle.mk_move.specs.MoveLists.{TheBasis, IsBasis};
+    ghost use Rattle.mk_move.specs.MoveLists.{BasisView, IsBasis};
 
-    ghost Value = { TheBasis };
+    ghost Value = { BasisView };
 
     ghost view = { λ b. record { moves = b.moves.items; priority = b.priority; grading = b.grading } };
 

@@ -1,6 +1,6 @@
 ghost use Rattle.std.specs.Prelude.{◌≡◌, ◌≤◌, ◌<◌, length, IfOk, IfErr, All};
 ghost use Rattle.mk_model.specs.Vectors.{entry, weight, positive_part, IsEntry};
-ghost use Rattle.mk_move.specs.Gradings.{IsWeight, AreWeights, IsRefused};
+ghost use Rattle.mk_move.specs.Gradings.{IsWeight, AreWeights, IsGradingFault};
 
 use mk_model::{Entry, NoMemory};
 use std::alloc::{AllocError, Global};
@@ -50,7 +50,7 @@ impl Grading {
         requires { length weights.now ≤ 512 }
         ensures value { IfOk result (λ grading. grading ≡ weights.now) }
         ensures weights { IfOk result AreWeights }
-        ensures refused { IfErr result (IsRefused weights.now) }
+        ensures refused { IfErr result (IsGradingFault weights.now) }
     {
         for (column, value) in weights.iter().enumerate() {
             if *value < 1 || *value > WEIGHT_MAX {

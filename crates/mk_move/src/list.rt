@@ -1,11 +1,11 @@
 ghost use Rattle.std.specs.Prelude.{◌≡◌, ◌<◌, length, slice_get, Some};
-ghost use Rattle.mk_move.specs.MoveLists.{TheList};
+ghost use Rattle.mk_move.specs.MoveLists.{MoveListView};
 
 use crate::moves::Move;
 
 /// A list of moves, all of as many columns, fewer than 2^32 of them.
 pub trait MoveList {
-    ghost list: { Self → TheList };
+    ghost list: { Self → MoveListView };
 
     /// How many columns its moves have.
     fn columns(&self) -> u32

@@ -1,6 +1,6 @@
 ghost use Rattle.std.specs.Prelude.{◌≡◌, ◌<◌, List, ℤ, length, map, IfOk, MatchOption, All};
 ghost use Rattle.mk_model.specs.Vectors.{IsEntry, entry, negate, zeros};
-ghost use Rattle.mk_move.specs.Moves.{IsKept, IsRowOriented, IsGraded, ReadsRow, first_along};
+ghost use Rattle.mk_move.specs.Moves.{IsMoveKept, IsRowOriented, IsGraded, ReadsRow, first_along};
 ghost use Rattle.mk_move.specs.Masks.{IsMask};
 ghost use Rattle.mk_move.specs.Sides.{part_of};
 
@@ -49,14 +49,14 @@ pub struct Move {
 }
 
 impl Model for Move {
-    ghost use Rattle.mk_move.specs.Moves.{Weighed, IsKept};
+    ghost use Rattle.mk_move.specs.Moves.{Weighed, IsMoveKept};
     ghost use Rattle.mk_move.specs.Masks.{AreMasks};
 
     ghost Value = { Weighed };
 
     ghost view = { λ m. record { entries = m.entries.items; weight = m.weight } };
 
-    ghost invariant = { λ m. IsKept (record { entries = m.entries.items; weight = m.weight })
+    ghost invariant = { λ m. IsMoveKept (record { entries = m.entries.items; weight = m.weight })
         × AreMasks m.entries.items m.plus m.minus };
 }
 
@@ -87,7 +87,7 @@ impl Move {
 
     /// The move with these entries and this weight.
     pub(crate) fn of_entries(entries: Entries, weight: i128) -> Move
-        requires { IsKept (record { entries = entries.items; weight = weight }) }
+        requires { IsMoveKept (record { entries = entries.items; weight = weight }) }
         ensures entries { result.entries ≡ entries.items }
         ensures weight { result.weight ≡ weight }
     {
@@ -131,7 +131,7 @@ impl Move {
     /// Its entries, column by column.
     pub(crate) fn entries(&self) -> &[Entry]
         ensures value { result.now ≡ self.now.entries }
-        ensures kept { IsKept self.now }
+        ensures kept { IsMoveKept self.now }
     {
         self.entries.as_slice()
     }
@@ -149,7 +149,7 @@ impl Move {
     /// How many columns it has.
     pub fn columns(&self) -> u32
         ensures value { result ≡ length self.now.entries }
-        ensures kept { IsKept self.now }
+        ensures kept { IsMoveKept self.now }
     {
         self.entries.len() as u32
     }

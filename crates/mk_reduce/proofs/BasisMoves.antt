@@ -3,17 +3,17 @@ use Rattle.std.proofs.Common.{◌≡◌, ◌≢◌, ◌<◌, List, [], length, �
 use Rattle.std.proofs.lemmas.Int.{ints}
 use Rattle.std.proofs.lemmas.List.Elements.{All-nil}
 use Rattle.mk_model.specs.Vectors.{zeros, positive_part, weight, negate}
-use Rattle.mk_model.specs.Lattices.{IsGrading}
+use Rattle.mk_model.specs.Lattices.{lattice_of, HasGrading}
 use Rattle.mk_model.specs.Orders.{lead, tail}
 use Rattle.mk_model.proofs.VectorAlgebra.{weight-parts, weight-zeros, entry_within_weight, IsPoint-positive_part, IsPoint-negative_part, length-negate, weight-negate}
 use Rattle.mk_model.proofs.OrderLaws.{IsBelow-decided}
 use Rattle.mk_move.specs.Gradings.{AreWeights}
 use Rattle.mk_move.specs.Moves.{Weighed, ReadsRow}
-use Rattle.mk_move.specs.MoveLists.{TheBasis, BelongsTo, IsBasis}
+use Rattle.mk_move.specs.MoveLists.{BasisView, BelongsTo, IsBasis}
 use Rattle.mk_reduce.proofs.Heights.{IsLevel}
 
 -- weights are a grading of any columns that are as many
-pub grading_of : (w : List ℤ) → AreWeights w → IsGrading (length w) [] w
+pub grading_of : (w : List ℤ) → AreWeights w → HasGrading (lattice_of (length w) [] w)
 grading_of w h = record {
   columns = refl;
   positive = λ c l. (h.each c (pos 0) l).0;
@@ -21,7 +21,7 @@ grading_of w h = record {
   rows_weight = All-nil (λ row. weight w row ≡ pos 0);
 }
 
-module _ (basis : TheBasis) (h : IsBasis basis) (m : Weighed) (b : BelongsTo basis.priority basis.grading m) where
+module _ (basis : BasisView) (h : IsBasis basis) (m : Weighed) (b : BelongsTo basis.priority basis.grading m) where
   pub columns_of : length m.entries ≡ length basis.grading
   columns_of = b.columns ∙ h.columns
 
@@ -41,7 +41,7 @@ module _ (basis : TheBasis) (h : IsBasis basis) (m : Weighed) (b : BelongsTo bas
       omega (arith, ints, heavy, weight-parts w m.entries, b.graded.product, s.nonnegative c)
 
 -- the move of a row belongs to the basis
-pub row_belongs : (basis : TheBasis) → IsBasis basis → (row : List ℤ) (m : Weighed) → length row ≡ length basis.grading → ReadsRow row basis.grading basis.priority (Ok (Some m)) → BelongsTo basis.priority basis.grading m
+pub row_belongs : (basis : BasisView) → IsBasis basis → (row : List ℤ) (m : Weighed) → length row ≡ length basis.grading → ReadsRow row basis.grading basis.priority (Ok (Some m)) → BelongsTo basis.priority basis.grading m
 row_belongs basis h row m l (product, r) = record {
   columns = columns r.entries.either ∙ l ∙ sym h.columns;
   graded = record { product = weighs r.entries.either; weight = r.weight };

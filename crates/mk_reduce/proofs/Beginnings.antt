@@ -11,7 +11,7 @@ use Rattle.mk_model.specs.Reductions.Reaches.{here}
 use Rattle.mk_model.specs.Overflows.{IsFirstBeyond}
 use Rattle.mk_model.proofs.VectorAlgebra.{scale-one}
 use Rattle.mk_move.specs.Moves.{Weighed}
-use Rattle.mk_move.specs.MoveLists.{TheBasis, vectors_of}
+use Rattle.mk_move.specs.MoveLists.{BasisView, vectors_of}
 use Rattle.mk_move.specs.Steps.{minus_times, TakesOff, IsStepFault, IsOverflow}
 use Rattle.mk_move.specs.declared.steps.OverflowAt.{OverflowAt}
 use Rattle.mk_move.specs.declared.steps.StepFault.{StepFault}
@@ -36,7 +36,7 @@ pub rest_is : (x y w : List ℤ) (times : ℤ) (rest : Option Weighed) → lengt
 rest_is x y w times None l h = sym (h ∙ ap zeros l)
 rest_is x y w times (Some m) l h = h.entries
 
-pub begun : (basis : TheBasis) (i j : ℕ) (a b : Weighed) (rest : Option Weighed) → i < j → slice_get basis.moves i ≡ Some a → slice_get basis.moves j ≡ Some b →
+pub begun : (basis : BasisView) (i j : ℕ) (a b : Weighed) (rest : Option Weighed) → i < j → slice_get basis.moves i ≡ Some a → slice_get basis.moves j ≡ Some b →
     rest_of (length basis.grading) rest ≡ minus_times b.entries (pos 1) a.entries → IfSome rest (IsRest basis.grading) →
     WorkOf (record { pair = pair_of i j; front = 0; remainder = rest; trace = [] }) basis
 begun basis i j a b rest l h k e graded =

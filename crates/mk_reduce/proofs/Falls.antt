@@ -4,26 +4,26 @@ use Rattle.std.proofs.Math.ListN.{get_or-map}
 use Rattle.mk_model.specs.CoreStates.{move_at}
 use Rattle.mk_model.specs.Overflows.{IsTimesDividing}
 use Rattle.mk_move.specs.Moves.{Weighed}
-use Rattle.mk_move.specs.MoveLists.{TheBasis, IsBasis, vectors_of}
+use Rattle.mk_move.specs.MoveLists.{BasisView, IsBasis, vectors_of}
 use Rattle.mk_reduce.specs.declared.step.Step.{Step}
-use Rattle.mk_reduce.specs.Works.{TheWork, IsRest, IsStep, after_step, IsLeftAfter, IsStepMore}
+use Rattle.mk_reduce.specs.Works.{TheWork, IsRest, IsReductionStep, after_step, IsLeftAfter, IsStepMore}
 use Rattle.mk_reduce.proofs.Beginnings.{length-vectors_of}
 use Rattle.mk_reduce.proofs.Heights.{height, step_lowers, IsLevel}
 use Rattle.mk_reduce.proofs.BasisMoves.{grading_of, level_of}
 
 -- how much is left to do: nothing where nothing is left
-abbrev pub to_do : TheBasis → Option Weighed → ℕ
+abbrev pub to_do : BasisView → Option Weighed → ℕ
 to_do basis None = 0
 to_do basis (Some m) = suc (height basis.grading basis.priority m.entries)
 
-module _ (basis : TheBasis) (h : IsBasis basis) where
+module _ (basis : BasisView) (h : IsBasis basis) where
   abbrev no_move : Weighed
   no_move = record { entries = []; weight = pos 0 }
 
   vector_is : (place : ℕ) → move_at (vectors_of basis.moves) place ≡ (get_or basis.moves place no_move).entries
   vector_is place = get_or-map (λ (m : Weighed). m.entries) basis.moves place no_move
 
-  step_down : (r : List ℤ) (step : Step) → IsLevel (grading_of basis.grading h.grading) basis.priority r → IsStep (vectors_of basis.moves) r step →
+  step_down : (r : List ℤ) (step : Step) → IsLevel (grading_of basis.grading h.grading) basis.priority r → IsReductionStep (vectors_of basis.moves) r step →
       height basis.grading basis.priority (after_step (vectors_of basis.moves) r step) < height basis.grading basis.priority r
   step_down r step l d =
       let b = h.moves step.place no_move (omega (arith, d.within, length-vectors_of basis.moves)) in

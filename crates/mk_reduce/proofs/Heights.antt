@@ -4,7 +4,7 @@ use Rattle.std.proofs.lemmas.Int.{ints}
 use Rattle.std.proofs.Math.Nat.{pow-le-pow_left, mul-le-mul}
 use borrow.Author.Differences.{up}
 use Rattle.mk_model.specs.Vectors.{entry, subtract, scale, positive_part, negative_part, weight, IsPoint}
-use Rattle.mk_model.specs.Lattices.{IsGrading}
+use Rattle.mk_model.specs.Lattices.{lattice_of, HasGrading}
 use Rattle.mk_model.specs.Orders.{IsBelow, IsOriented, lead, tail}
 use Rattle.mk_model.specs.Reductions.{Divides}
 use Rattle.mk_model.proofs.Integers.{product_below}
@@ -40,7 +40,7 @@ lower_by_weight p less more a b x y h =
     omega (arith, rank_limit less p a, rank_limit less p b)
 
 -- the difference of two points of one weight, the one or the other below where it was, is lower than these
-module _ {n : ℕ} {rows : List (List ℤ)} {w : List ℤ} (g : IsGrading n rows w) (p : List ℕ) where
+module _ {n : ℕ} {rows : List (List ℤ)} {w : List ℤ} (g : HasGrading (lattice_of n rows w)) (p : List ℕ) where
   bounded : (bound : ℤ) (x : List ℤ) → IsPoint n x → weight w x ≡ bound → IsBounded (up bound) x
   bounded bound x q e = subst (λ (z : ℤ). IsBounded (up z) x) e (IsBounded-weight g q)
 

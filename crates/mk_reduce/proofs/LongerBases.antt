@@ -7,13 +7,13 @@ use Rattle.mk_model.specs.Reductions.{Reduct}
 use Rattle.mk_model.proofs.Reducts.{Reduct-append}
 use Rattle.mk_model.proofs.Journals.{move_at-append, IsPairOf-append, difference-append}
 use Rattle.mk_move.specs.Moves.{Weighed}
-use Rattle.mk_move.specs.MoveLists.{TheBasis, vectors_of}
+use Rattle.mk_move.specs.MoveLists.{BasisView, vectors_of}
 use Rattle.mk_move.specs.Steps.{minus_times}
 use Rattle.mk_reduce.specs.declared.step.Step.{Step}
-use Rattle.mk_reduce.specs.Works.{TheWork, WorkOf, rest_of, IsRest, IsStep, after_step, LeadsTo}
+use Rattle.mk_reduce.specs.Works.{TheWork, WorkOf, rest_of, IsRest, IsReductionStep, after_step, LeadsTo}
 
 module _ (moves more : List (List ℤ)) where
-  IsStep-append : (r : List ℤ) (step : Step) → IsStep moves r step → IsStep (moves ++ more) r step
+  IsStep-append : (r : List ℤ) (step : Step) → IsReductionStep moves r step → IsReductionStep (moves ++ more) r step
   IsStep-append r step h = record {
     within = omega (arith, h.within, length-append moves more);
     divides = subst (λ v. IsTimesDividing v r step.times) (sym (move_at-append moves more step.place h.within)) h.divides;
@@ -26,7 +26,7 @@ module _ (moves more : List (List ℤ)) where
       (IsStep-append r step h, subst (λ x. LeadsTo (moves ++ more) x trace last) same (LeadsTo-append (after_step moves r step) trace last l))
 
 -- the longer basis has the moves of the other, and more behind them
-pub WorkOf-append : (work : TheWork) (basis longer : TheBasis) (more : List Weighed) → longer.moves ≡ basis.moves ++ more → longer.grading ≡ basis.grading → WorkOf work basis → WorkOf work longer
+pub WorkOf-append : (work : TheWork) (basis longer : BasisView) (more : List Weighed) → longer.moves ≡ basis.moves ++ more → longer.grading ≡ basis.grading → WorkOf work basis → WorkOf work longer
 WorkOf-append work basis longer more e f h = record {
   pair = subst (λ ms. IsPairOf ms work.pair) (sym vectors) (IsPairOf-append old behind work.pair h.pair);
   front = omega (arith, h.front, ap length e, length-append basis.moves more);

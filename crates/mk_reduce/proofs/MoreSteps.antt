@@ -11,22 +11,22 @@ use Rattle.mk_model.proofs.Integers.{neg_ℤ-*ℤ}
 use Rattle.mk_model.proofs.VectorAlgebra.{lengths, entries, same_vectors}
 use Rattle.mk_model.proofs.Confluence.{reaches_append}
 use Rattle.mk_move.specs.Moves.{Weighed}
-use Rattle.mk_move.specs.MoveLists.{TheBasis, vectors_of}
+use Rattle.mk_move.specs.MoveLists.{BasisView, vectors_of}
 use Rattle.mk_move.specs.Steps.{minus_times, TakesOff, IsStepFault}
 use Rattle.mk_move.specs.declared.steps.StepFault.{StepFault}
 use Rattle.mk_reduce.specs.declared.step.Step.{Step}
-use Rattle.mk_reduce.specs.Works.{TheWork, WorkOf, rest_of, IsStep, after_step, LeadsTo, IsStepMore, IsRest, IsLeftAfter}
+use Rattle.mk_reduce.specs.Works.{TheWork, WorkOf, rest_of, IsReductionStep, after_step, LeadsTo, IsStepMore, IsRest, IsLeftAfter}
 use Rattle.mk_reduce.proofs.Beginnings.{length-vectors_of, rest_is, rest_graded}
 
-leads_more : (moves : List (List ℤ)) (r : List ℤ) (trace : List Step) (last next : List ℤ) (step : Step) → LeadsTo moves r trace last → IsStep moves last step → next ≡ after_step moves last step → LeadsTo moves r (trace ++ step ∷ []) next
-leads_more moves r [] last next step e h f = (subst (λ x. IsStep moves x step) e h, f ∙ ap (λ x. after_step moves x step) e)
+leads_more : (moves : List (List ℤ)) (r : List ℤ) (trace : List Step) (last next : List ℤ) (step : Step) → LeadsTo moves r trace last → IsReductionStep moves last step → next ≡ after_step moves last step → LeadsTo moves r (trace ++ step ∷ []) next
+leads_more moves r [] last next step e h f = (subst (λ x. IsReductionStep moves x step) e h, f ∙ ap (λ x. after_step moves x step) e)
 leads_more moves r (first ∷ trace) last next step (g, l) h f = (g, leads_more moves (after_step moves r first) trace last next step l h f)
 
 add_times : (a k b : ℤ) → a -ℤ (neg_ℤ k *ℤ b) ≡ a +ℤ (k *ℤ b)
 add_times a k b = ap (λ (z : ℤ). a -ℤ z) (neg_ℤ-*ℤ k b) ∙ omega (arith, ints)
 
 -- a step, as a reduction by a member
-reduction_of : (moves : List (List ℤ)) (r next : List ℤ) (step : Step) → IsStep moves r step → next ≡ after_step moves r step → IsReduction moves r next
+reduction_of : (moves : List (List ℤ)) (r next : List ℤ) (step : Step) → IsReductionStep moves r step → next ≡ after_step moves r step → IsReduction moves r next
 reduction_of moves r next step h e = record {
   move = move_at moves step.place;
   member = Contains-get_or moves step.place [] h.within;
@@ -57,7 +57,7 @@ places_within moves r (first ∷ trace) last (g, l) = All-cons (λ (step : Step)
 abbrev pub with_front : ℕ → TheWork → TheWork
 with_front front work = record work { front = front }
 
-module _ (basis : TheBasis) (work : TheWork) (h : WorkOf work basis) where
+module _ (basis : BasisView) (work : TheWork) (h : WorkOf work basis) where
   -- all places of the trace are those of moves
   pub work_at_end : WorkOf (with_front (length basis.moves) work) basis
   work_at_end = record {
@@ -73,7 +73,7 @@ module _ (basis : TheBasis) (work : TheWork) (h : WorkOf work basis) where
   at_end : (k : ℕ) → k < length (vectors_of basis.moves) → k < length basis.moves
   at_end k l = omega (arith, length-vectors_of basis.moves)
 
-  pub step_within : (step : Step) (r : List ℤ) → IsStep (vectors_of basis.moves) r step → work.front ≡ length basis.moves → step.place < work.front
+  pub step_within : (step : Step) (r : List ℤ) → IsReductionStep (vectors_of basis.moves) r step → work.front ≡ length basis.moves → step.place < work.front
   step_within step r d e = omega (arith, at_end step.place d.within)
 
   -- the places of the trace are below the front if this isn't 0
@@ -102,8 +102,8 @@ module _ (basis : TheBasis) (work : TheWork) (h : WorkOf work basis) where
       steps : LeadsTo (vectors_of basis.moves) first work.trace last
       steps = h.steps
 
-      taken : IsStep (vectors_of basis.moves) last d.step
-      taken = subst (λ (x : Option Weighed). IsStep (vectors_of basis.moves) (rest_of n x) d.step) (sym d.was) d.leaves.taken
+      taken : IsReductionStep (vectors_of basis.moves) last d.step
+      taken = subst (λ (x : Option Weighed). IsReductionStep (vectors_of basis.moves) (rest_of n x) d.step) (sym d.was) d.leaves.taken
 
       leaves : rest_of n d.left ≡ after_step (vectors_of basis.moves) last d.step
       leaves = d.leaves.entries ∙ ap (λ (x : Option Weighed). after_step (vectors_of basis.moves) (rest_of n x) d.step) (sym d.was)
@@ -112,7 +112,7 @@ module _ (basis : TheBasis) (work : TheWork) (h : WorkOf work basis) where
       within = step_within d.step last taken e
 
 -- what is taken off, and why it isn't
-pub left_or_not : (basis : TheBasis) (from : Weighed) (step : Step) (v : List ℤ) (result : Result (Option Weighed) StepFault) → IsRest basis.grading from → IsStep (vectors_of basis.moves) from.entries step →
+pub left_or_not : (basis : BasisView) (from : Weighed) (step : Step) (v : List ℤ) (result : Result (Option Weighed) StepFault) → IsRest basis.grading from → IsReductionStep (vectors_of basis.moves) from.entries step →
     move_at (vectors_of basis.moves) step.place ≡ v → length v ≡ length basis.grading → TakesOff from.entries step.times v basis.grading result →
     MatchResult result (IsLeftAfter basis from step) (IsStepFault from.entries (move_at (vectors_of basis.moves) step.place) step.times)
 left_or_not basis from step v (Ok left) r d e l t = record {

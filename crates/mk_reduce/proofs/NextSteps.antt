@@ -16,14 +16,14 @@ use Rattle.mk_model.specs.Lattices.{is_zero}
 use Rattle.mk_model.specs.Orders.{lead}
 use Rattle.mk_model.specs.Reductions.{Divides, IsNormal, IsIrreducible}
 use Rattle.mk_model.specs.Overflows.{IsTimesDividing}
-use Rattle.mk_move.specs.Moves.{Weighed, IsKept}
-use Rattle.mk_move.specs.MoveLists.{TheBasis, IsBasis, BelongsTo, vectors_of}
+use Rattle.mk_move.specs.Moves.{Weighed, IsMoveKept}
+use Rattle.mk_move.specs.MoveLists.{BasisView, IsBasis, BelongsTo, vectors_of}
 use Rattle.mk_move.specs.Sides.{part_of, IsMostTimes, DividesAt}
 use Rattle.mk_move.proofs.Readings.{entry_read}
 use Rattle.mk_move.specs.declared.side.Side.{Side}
 use Rattle.mk_move.specs.declared.side.Side.TheVariants.{Plus, Minus}
 use Rattle.mk_reduce.specs.Leads.{leads_of}
-use Rattle.mk_reduce.specs.Works.{IsStep}
+use Rattle.mk_reduce.specs.Works.{IsReductionStep}
 use Rattle.mk_reduce.proofs.LeadLists.{lead_at, length-leads_of}
 use Rattle.mk_reduce.proofs.Beginnings.{vector_at, length-vectors_of}
 
@@ -44,7 +44,7 @@ times_on m r Plus times h = record { count = h.count; some = h.some; divides = i
 times_on m r Minus times h = record { count = h.count; some = h.some; divides = inr (ap neg_ℤ h.value, h.divides) }
 
 pub step_on : (moves : List Weighed) (r : List ℤ) (place : ℕ) (m : Weighed) (side : Side) (times : ℤ) → slice_get moves place ≡ Some m → IsMostTimes (lead m.entries) (part_of side r) times →
-    IsStep (vectors_of moves) r (record { times = signed side times; place = place })
+    IsReductionStep (vectors_of moves) r (record { times = signed side times; place = place })
 step_on moves r place m side times h d = record {
   within = omega (arith, slice_get_within moves place m h, length-vectors_of moves);
   divides = subst (λ v. IsTimesDividing v r (signed side times)) (sym (vector_at moves place m h)) (times_on m.entries r side times d);
@@ -65,19 +65,19 @@ minus_read times h =
 
 -- the steps that the code makes
 pub plus_step : (moves : List Weighed) (r : List ℤ) (place : ℕ) (m : Weighed) (side : Side) (times : ℤ) → side ≡ Plus → mag times < 9223372036854775808 → slice_get moves place ≡ Some m → IsMostTimes (lead m.entries) (part_of side r) times →
-    IsStep (vectors_of moves) r (record { times = to_z w64 (of_z w64 times); place = place })
+    IsReductionStep (vectors_of moves) r (record { times = to_z w64 (of_z w64 times); place = place })
 plus_step moves r place m side times e l h d =
     let read = entry_read times (times_are_entry times (lead m.entries) (part_of side r) l d) in
-    subst (λ (z : ℤ). IsStep (vectors_of moves) r (record { times = z; place = place })) (ap (λ s. signed s times) e ∙ sym read) (step_on moves r place m side times h d)
+    subst (λ (z : ℤ). IsReductionStep (vectors_of moves) r (record { times = z; place = place })) (ap (λ s. signed s times) e ∙ sym read) (step_on moves r place m side times h d)
 
 pub minus_step : (moves : List Weighed) (r : List ℤ) (place : ℕ) (m : Weighed) (side : Side) (times : ℤ) → side ≡ Minus → mag times < 9223372036854775808 → slice_get moves place ≡ Some m → IsMostTimes (lead m.entries) (part_of side r) times →
-    IsStep (vectors_of moves) r (record { times = to_z w64 (of_z w64 (pos 0 -ℤ to_z w64 (of_z w64 times))); place = place })
+    IsReductionStep (vectors_of moves) r (record { times = to_z w64 (of_z w64 (pos 0 -ℤ to_z w64 (of_z w64 times))); place = place })
 minus_step moves r place m side times e l h d =
     let read = minus_read times (times_are_entry times (lead m.entries) (part_of side r) l d) in
-    subst (λ (z : ℤ). IsStep (vectors_of moves) r (record { times = z; place = place })) (ap (λ s. signed s times) e ∙ sym read) (step_on moves r place m side times h d)
+    subst (λ (z : ℤ). IsReductionStep (vectors_of moves) r (record { times = z; place = place })) (ap (λ s. signed s times) e ∙ sym read) (step_on moves r place m side times h d)
 
 -- ---- where there is none
-pub lead_columns : (basis : TheBasis) (r : List ℤ) → IsBasis basis → length r ≡ length basis.grading → All (λ (x : List ℤ). length x ≡ length r) (leads_of basis.moves)
+pub lead_columns : (basis : BasisView) (r : List ℤ) → IsBasis basis → length r ≡ length basis.grading → All (λ (x : List ℤ). length x ≡ length r) (leads_of basis.moves)
 lead_columns basis r h l =
     All-map (λ (x : List ℤ). length x ≡ length r) (λ (m : Weighed). lead m.entries) basis.moves
     (All-weaker (BelongsTo basis.priority basis.grading) (λ (m : Weighed). length (lead m.entries) ≡ length r) (λ m b. length-positive_part m.entries ∙ b.columns ∙ h.columns ∙ sym l) basis.moves h.moves)
@@ -91,7 +91,7 @@ irreducible moves x h v (k, l, e) d =
     ap (λ (z : List (List ℤ)). get_or z k (lead v)) (sym (map-map (λ (u : List ℤ). lead u) (λ (m : Weighed). m.entries) moves)) ∙ get_or-map (λ (u : List ℤ). lead u) (vectors_of moves) k v ∙ ap (λ (u : List ℤ). lead u) e in
     h k (lead v) (omega (arith, length-vectors_of moves, length-leads_of moves)) (subst (λ (u : List ℤ). Divides u x) (sym at) d)
 
-pub normal : (moves : List Weighed) (m : Weighed) → IsKept m → All (λ (l : List ℤ). ¬ (Divides l (part_of Plus m.entries))) (leads_of moves) → All (λ (l : List ℤ). ¬ (Divides l (part_of Minus m.entries))) (leads_of moves) → IsNormal (vectors_of moves) m.entries
+pub normal : (moves : List Weighed) (m : Weighed) → IsMoveKept m → All (λ (l : List ℤ). ¬ (Divides l (part_of Plus m.entries))) (leads_of moves) → All (λ (l : List ℤ). ¬ (Divides l (part_of Minus m.entries))) (leads_of moves) → IsNormal (vectors_of moves) m.entries
 normal moves m k h j = record {
   not_zero = not_zero m.entries k.not_zero;
   positive = irreducible moves (positive_part m.entries) h;

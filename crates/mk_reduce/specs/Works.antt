@@ -6,7 +6,7 @@ use Rattle.mk_model.specs.CoreStates.{Pair, move_at, difference, IsPairOf}
 use Rattle.mk_model.specs.Overflows.{IsTimesDividing}
 use Rattle.mk_model.specs.Reductions.{Reduct, IsNormal}
 use Rattle.mk_move.specs.Moves.{Weighed, IsGraded}
-use Rattle.mk_move.specs.MoveLists.{TheBasis, vectors_of}
+use Rattle.mk_move.specs.MoveLists.{BasisView, vectors_of}
 use Rattle.mk_move.specs.Steps.{minus_times}
 use Rattle.mk_reduce.specs.declared.step.Step.{Step}
 
@@ -23,7 +23,7 @@ rest_of n None = zeros n
 rest_of n (Some m) = m.entries
 
 -- so many times the lead of the move of the place divide the part of r that the sign of the number says
-pub record IsStep (moves : List (List ℤ)) (r : List ℤ) (step : Step) : Type 0 where
+pub record IsReductionStep (moves : List (List ℤ)) (r : List ℤ) (step : Step) : Type 0 where
   pub within : step.place < length moves
   pub divides : IsTimesDividing (move_at moves step.place) r step.times
 
@@ -34,7 +34,7 @@ after_step moves r step = minus_times r step.times (move_at moves step.place)
 -- the steps, one after another, lead from r to the last vector
 abbrev pub LeadsTo : List (List ℤ) → List ℤ → List Step → List ℤ → Type 0
 LeadsTo moves r [] last = last ≡ r
-LeadsTo moves r (step ∷ trace) last = IsStep moves r step × LeadsTo moves (after_step moves r step) trace last
+LeadsTo moves r (step ∷ trace) last = IsReductionStep moves r step × LeadsTo moves (after_step moves r step) trace last
 
 -- as many columns as the grading, and the weight that it gives
 pub record IsRest (w : List ℤ) (m : Weighed) : Type 0 where
@@ -42,13 +42,13 @@ pub record IsRest (w : List ℤ) (m : Weighed) : Type 0 where
   pub graded : IsGraded w m
 
 -- what a step leaves of a move, and none for zero
-pub record IsLeftAfter (basis : TheBasis) (from : Weighed) (step : Step) (left : Option Weighed) : Type 0 where
-  pub taken : IsStep (vectors_of basis.moves) from.entries step
+pub record IsLeftAfter (basis : BasisView) (from : Weighed) (step : Step) (left : Option Weighed) : Type 0 where
+  pub taken : IsReductionStep (vectors_of basis.moves) from.entries step
   pub entries : rest_of (length basis.grading) left ≡ after_step (vectors_of basis.moves) from.entries step
   pub graded : IfSome left (IsRest basis.grading)
 
 -- One step more: what it leaves takes the place of what was left, and it ends the trace.
-pub record IsStepMore (basis : TheBasis) (before after : TheWork) : Type 0 where
+pub record IsStepMore (basis : BasisView) (before after : TheWork) : Type 0 where
   pub from : Weighed
   pub step : Step
   pub left : Option Weighed
@@ -57,7 +57,7 @@ pub record IsStepMore (basis : TheBasis) (before after : TheWork) : Type 0 where
   pub changed : after ≡ record before { remainder = left; trace = before.trace ++ step ∷ [] }
 
 -- Work on a pair of the basis. Each place of the trace is below the front, unless the front is 0 and something is left.
-pub record WorkOf (work : TheWork) (basis : TheBasis) : Type 0 where
+pub record WorkOf (work : TheWork) (basis : BasisView) : Type 0 where
   pub pair : IsPairOf (vectors_of basis.moves) work.pair
   pub front : work.front ≤ length basis.moves
   pub steps : LeadsTo (vectors_of basis.moves) (difference (vectors_of basis.moves) work.pair) work.trace (rest_of (length basis.grading) work.remainder)
@@ -71,10 +71,10 @@ IsReduced moves None = Unit {0}
 IsReduced moves (Some m) = IsNormal moves m.entries
 
 -- one step more, or none: then it is unchanged, and nothing is left or what is left is normal
-abbrev pub Advances : TheBasis → TheWork → TheWork → Bool → Type 0
+abbrev pub Advances : BasisView → TheWork → TheWork → Bool → Type 0
 Advances basis before after true = IsStepMore basis before after
 Advances basis before after false = (after ≡ before) × IsReduced (vectors_of basis.moves) before.remainder
 
 -- the trace has the earlier steps, and maybe more behind them
-abbrev pub GoesOn : List Step → List Step → Type 0
-GoesOn earlier trace = (more : List Step) × (trace ≡ earlier ++ more)
+abbrev pub ContinuesWork : List Step → List Step → Type 0
+ContinuesWork earlier trace = (more : List Step) × (trace ≡ earlier ++ more)

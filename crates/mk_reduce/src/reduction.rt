@@ -6,7 +6,7 @@ ghost use Rattle.mk_move.specs.MoveLists.{IsBasis, vectors_of};
 ghost use Rattle.mk_move.specs.Sides.{part_of, DividesAt};
 ghost use Rattle.mk_move.specs.Steps.{IsStepFault};
 ghost use Rattle.mk_reduce.specs.Leads.{leads_of};
-ghost use Rattle.mk_reduce.specs.Works.{WorkOf, IsRest, IsStep, IsLeftAfter, Advances, IsReduced, GoesOn};
+ghost use Rattle.mk_reduce.specs.Works.{WorkOf, IsRest, IsReductionStep, IsLeftAfter, Advances, IsReduced, ContinuesWork};
 ghost use Rattle.mk_reduce.specs.Stops.{IsStepRefused};
 
 use crate::step::Step;
@@ -33,7 +33,7 @@ pub fn reduce<F: Finder>(
     ensures reduced { OnOk result (IsReduced (vectors_of basis.now.moves) work.new.remainder) }
     ensures refused { OnErr result (work.new.front ≡ 0) }
     ensures stop { IfErr result (IsStepRefused basis.now.moves work.old.pair work.new.remainder) }
-    ensures stays { GoesOn work.old.trace work.new.trace }
+    ensures stays { ContinuesWork work.old.trace work.new.trace }
 {
     work.set_front(basis.len());
     loop {
@@ -87,7 +87,7 @@ fn left_after(
 ) -> Result<Option<Move>, StepFault>
     requires basis { IsBasis basis.now }
     requires rest { IsRest basis.now.grading rest.now }
-    requires step { IsStep (vectors_of basis.now.moves) rest.now.entries step }
+    requires step { IsReductionStep (vectors_of basis.now.moves) rest.now.entries step }
     requires times { IsEntry step.times }
     ensures { MatchResult result (IsLeftAfter basis.now rest.now step)
         (IsStepFault rest.now.entries (move_at (vectors_of basis.now.moves) step.place) step.times) }
@@ -106,7 +106,7 @@ fn step_at(rest: &Move, basis: &Basis, place: u32, side: Side) -> Step
     requires basis { IsBasis basis.now }
     requires columns { length rest.now.entries ≡ length basis.now.grading }
     requires divides { DividesAt (leads_of basis.now.moves) (part_of side rest.now.entries) place }
-    ensures step { IsStep (vectors_of basis.now.moves) rest.now.entries result }
+    ensures step { IsReductionStep (vectors_of basis.now.moves) rest.now.entries result }
     ensures times { IsEntry result.times }
 {
     let count = times_dividing(basis.move_at(place), rest, side);
@@ -127,7 +127,7 @@ fn next_step<F: Finder>(rest: &Move, basis: &Basis, finder: &F) -> Option<Step>
     requires basis { IsBasis basis.now }
     requires leads { F.leads finder.now ≡ leads_of basis.now.moves }
     requires columns { length rest.now.entries ≡ length basis.now.grading }
-    ensures found { IfSome result (IsStep (vectors_of basis.now.moves) rest.now.entries) }
+    ensures found { IfSome result (IsReductionStep (vectors_of basis.now.moves) rest.now.entries) }
     ensures times { IfSome result (λ step. IsEntry step.times) }
     ensures none { IfNone result (IsNormal (vectors_of basis.now.moves) rest.now.entries) }
 {

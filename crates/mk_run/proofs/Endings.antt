@@ -3,7 +3,7 @@ use Rattle.std.proofs.Common.{◌≡◌, ◌⊎◌, ℕ, List, [], ◌++◌, len
 use Rattle.std.proofs.lemmas.Bool.{false≢true}
 use Rattle.std.proofs.lemmas.List.{take_all}
 use Rattle.std.specs.FinMap.{insert}
-use Rattle.mk_move.specs.MoveLists.{TheList}
+use Rattle.mk_move.specs.MoveLists.{MoveListView}
 use Rattle.mk_desk.specs.Folders.{Desk}
 use Rattle.mk_desk.specs.Transfers.{SaysAll}
 use Rattle.mk_desk.specs.declared.folder.DeskFault.{DeskFault}
@@ -39,7 +39,7 @@ nothing_said line rose r x = record {
 }
 
 -- ---- the answer's file
-module _ (project : List ℕ) (list : TheList) where
+module _ (project : List ℕ) (list : MoveListView) where
   abbrev text : List ℕ
   text = text_of list
 

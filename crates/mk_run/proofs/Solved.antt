@@ -1,8 +1,8 @@
 -- What a run does with a lattice that is solved, or stopped.
 use Rattle.std.proofs.Common.{◌≡◌, List, Result, Err, IsErrAnd, ap, sym, subst, ◌∙◌, ◌≤◌, arith, ℤ}
-use Rattle.mk_model.specs.Bases.{IsTheAnswer}
+use Rattle.mk_model.specs.Bases.{IsMinimalMarkovBasis}
 use Rattle.mk_model.specs.Tables.{Grid, rows_of}
-use Rattle.mk_move.specs.MoveLists.{TheList, vectors_of}
+use Rattle.mk_move.specs.MoveLists.{MoveListView, vectors_of}
 use Rattle.mk_solve.specs.Books.{Book, empty_book, settled_of}
 use Rattle.mk_solve.specs.Solutions.{IsSolved}
 use Rattle.mk_input.specs.Projects.{ProjectFiles, IsProblem}
@@ -11,14 +11,15 @@ use Rattle.mk_run.specs.declared.fault.RunFault.TheVariants.{Stopped}
 use Rattle.mk_run.specs.Runs.{default_budget, HasAnswer}
 use Rattle.mk_run.specs.Stages.{IsBookOf}
 use Rattle.mk_desk.proofs.Loading.{the_error}
+use Rattle.mk_model.specs.Lattices.{lattice_of}
 
 -- a lattice that is solved has the answer
-pub answer_of_solved : (files : ProjectFiles) (lat : Grid) (w : List ℤ) (book : Book) (list : TheList) → IsProblem files lat w → IsSolved (rows_of lat) w book list → HasAnswer files book lat (vectors_of list.moves)
+pub answer_of_solved : (files : ProjectFiles) (lat : Grid) (w : List ℤ) (book : Book) (list : MoveListView) → IsProblem files lat w → IsSolved (rows_of lat) w book list → HasAnswer files book lat (vectors_of list.moves)
 answer_of_solved files lat w book list problem solved = record {
   grading = w;
   problem = problem;
   done = solved.done;
-  answer = subst (λ n. IsTheAnswer n (rows_of lat) w (vectors_of list.moves)) problem.positive.columns solved.answer;
+  answer = subst (λ n. IsMinimalMarkovBasis (lattice_of n (rows_of lat) w) (vectors_of list.moves)) problem.positive.columns solved.answer;
 }
 
 -- a book that is empty still, where a run didn't begin to solve

@@ -1,13 +1,13 @@
--- How a run ends. The headline is `IsAnswered`.
+-- How a run ends. The headline is `WritesMarkovBasis`.
 use Rattle.std.specs.Prelude.{◌≡◌, ◌⊎◌, ℕ, ◌+◌, ◌≤◌, List, ◌++◌, length, take, Option, Some, None, IfSome, ℤ, codes}
 use Rattle.std.specs.FinMap.{insert}
-use Rattle.mk_model.specs.Bases.{IsTheAnswer}
-use Rattle.mk_model.specs.Lattices.{IsGrading}
-use Rattle.mk_model.specs.Tables.{Grid, rows_of}
+use Rattle.mk_model.specs.ChosenGradings.{IsGradingOf}
+use Rattle.mk_model.specs.Bases.{IsMinimalMarkovBasis}
+use Rattle.mk_model.specs.Tables.{lattice_of_table, Grid, rows_of}
 use Rattle.mk_model.specs.Texts.{move_text}
 use Rattle.mk_desk.specs.Folders.{Desk, State, Rose}
 use Rattle.mk_solve.specs.Books.{Book}
-use Rattle.mk_solve.specs.Solutions.{IsDone, HasStopped}
+use Rattle.mk_solve.specs.Solutions.{BookIsComplete, HasStopped}
 use Rattle.mk_solve.specs.declared.book.BookStop.{BookStop}
 use Rattle.mk_solve.specs.declared.book.BookStop.TheVariants as why
 use Rattle.mk_solve.specs.declared.fault.InputFile.{InputFile}
@@ -32,8 +32,8 @@ mar_name project = project ++ codes ".mar"
 pub record HasAnswer (files : ProjectFiles) (book : Book) (lat : Grid) (moves : List (List ℤ)) : Type 0 where
   pub grading : List ℤ
   pub problem : IsProblem files lat grading
-  pub done : IsDone (rows_of lat) grading book
-  pub answer : IsTheAnswer lat.columns (rows_of lat) grading moves
+  pub done : BookIsComplete (rows_of lat) grading book
+  pub answer : IsMinimalMarkovBasis (lattice_of_table lat grading) moves
 
 -- the files are a lattice with its grading, and the book's stop has its cause in it
 pub record HasStop (files : ProjectFiles) (book : Book) (stop : BookStop) : Type 0 where
@@ -44,7 +44,7 @@ pub record HasStop (files : ProjectFiles) (book : Book) (stop : BookStop) : Type
 
 -- The headline: the files are those from before, with the text of the answer as the project's `.mar`, and nothing was
 -- said on either channel.
-pub record IsAnswered (project : List ℕ) (book : Book) (before after : Desk) : Type 0 where
+pub record WritesMarkovBasis (project : List ℕ) (book : Book) (before after : Desk) : Type 0 where
   pub lat : Grid
   pub moves : List (List ℤ)
   pub answer : HasAnswer (project_files before.files project) book lat moves
@@ -60,7 +60,7 @@ pub record SaysLine (line : List ℕ) (rose : Type 0) (before after : Desk) : Ty
   pub change : after ≡ record before { rest = after.rest; errors = before.errors ++ take count line }
 
 -- the book's fault is one that the project's files have, and only its line was said
-pub record IsRefused (project : List ℕ) (book : Book) (rose : Type 0) (before after : Desk) : Type 0 where
+pub record RefusesInput (project : List ℕ) (book : Book) (rose : Type 0) (before after : Desk) : Type 0 where
   pub fault : InputFault
   pub kept : book.input ≡ Some fault
   pub faulty : IsFaulty (project_files before.files project) fault
@@ -107,9 +107,9 @@ pub record RunsOut (project : List ℕ) (book : Book) (before after : Desk) : Ty
 
 -- how a run for a project ends
 abbrev pub Ends : List ℕ → Book → Type 0 → Status → Desk → Desk → Type 0
-Ends project book rose Done before after = IsAnswered project book before after
+Ends project book rose Done before after = WritesMarkovBasis project book before after
 Ends project book rose Usage before after = ⊥
-Ends project book rose Input before after = IsRefused project book rose before after
+Ends project book rose Input before after = RefusesInput project book rose before after
 Ends project book rose Folder before after = Leaves project book (λ line. line ≡ folder_line) before after
 Ends project book rose Overflow before after = IsStopped project book Overflow rose before after
 Ends project book rose Budget before after = IsStopped project book Budget rose before after
@@ -128,17 +128,17 @@ EndsUnnamed rose Budget before after = ⊥
 EndsUnnamed rose Full before after = ⊥
 
 -- the book is done with a lattice of some rows and a grading
-pub record IsDoneFor (book : Book) : Type 0 where
+pub record BookIsCompleteFor (book : Book) : Type 0 where
   pub lat : Grid
   pub grading : List ℤ
-  pub positive : IsGrading lat.columns (rows_of lat) grading
-  pub done : IsDone (rows_of lat) grading book
+  pub positive : IsGradingOf lat grading
+  pub done : BookIsComplete (rows_of lat) grading book
 
 -- the stop has its cause in the book, for a lattice of some rows and a grading
 pub record IsStopFor (book : Book) (stop : BookStop) : Type 0 where
   pub lat : Grid
   pub grading : List ℤ
-  pub positive : IsGrading lat.columns (rows_of lat) grading
+  pub positive : IsGradingOf lat grading
   pub cause : HasStopped (rows_of lat) grading default_budget book stop
 
 -- no fault, and a stop of this status with its cause
@@ -151,7 +151,7 @@ HasNeither book = (book.input ≡ None) × (book.stop ≡ None)
 
 -- Each status with its cause, in what the book has and in what every folder has. Want of memory is free.
 abbrev pub HasCauseOf : Book → State → State → Status → Type 0
-HasCauseOf book before after Done = HasNeither book × IsDoneFor book × (after.making ≡ before.making)
+HasCauseOf book before after Done = HasNeither book × BookIsCompleteFor book × (after.making ≡ before.making)
 HasCauseOf book before after Usage = HasNeither book × (after.making ≡ before.making)
 HasCauseOf book before after Input = ((fault : InputFault) × (book.input ≡ Some fault)) × (book.stop ≡ None) × (after.making ≡ before.making)
 HasCauseOf book before after Folder = HasNeither book × Rose before.faults after.faults

@@ -1,7 +1,7 @@
 -- What the stages of a run do, one after another.
 use Rattle.std.specs.Prelude.{◌≡◌, ◌⊎◌, ◌+◌, ℕ, ◌≤◌, List, take, false, Some, None, Result, Ok, Err, IsOk, IsErrOf}
 use Rattle.std.specs.FinMap.{insert}
-use Rattle.mk_move.specs.MoveLists.{TheList}
+use Rattle.mk_move.specs.MoveLists.{MoveListView}
 use Rattle.mk_desk.specs.Folders.{Desk, State}
 use Rattle.mk_solve.specs.Books.{Book, settled_of}
 use Rattle.mk_solve.specs.declared.book.BookStop.{BookStop}
@@ -17,7 +17,7 @@ use Rattle.mk_input.specs.Projects.{project_files, file_limit, IsFaulty}
 use Rattle.mk_input.specs.Readings.{OnlyRead, IsShownBy}
 use Rattle.mk_input.specs.declared.fault.ReadFault.{ReadFault}
 use Rattle.mk_input.specs.declared.fault.ReadFault.TheVariants as read
-use Rattle.mk_run.specs.Runs.{default_budget, mar_name, IsDoneFor, IsStopFor, HasStop, IsAnswered, IsBegun}
+use Rattle.mk_run.specs.Runs.{default_budget, mar_name, BookIsCompleteFor, IsStopFor, HasStop, WritesMarkovBasis, IsBegun}
 use Rattle.mk_run.specs.declared.fault.RunFault.{RunFault}
 use Rattle.mk_run.specs.declared.fault.RunFault.TheVariants.{Memory, Failed, Input, Stopped}
 
@@ -40,12 +40,12 @@ write_refused write.Failed = Failed
 pub record IsBookOf {T : Type 0} (book : Book) (result : Result T RunFault) : Type 0 where
   pub input : book.input ≡ None
   pub settled : settled_of book.phases ≤ default_budget
-  pub done : IsOk result → IsDoneFor book
+  pub done : IsOk result → BookIsCompleteFor book
   pub stopped : result ≡ Err Stopped → (stop : BookStop) × (book.stop ≡ Some stop) × IsStopFor book stop
   pub not_stopped : ¬ (result ≡ Err Stopped) → book.stop ≡ None
 
 -- The project's `.mar` has the text of the list. After a refusal it was begun with a front of the text, or nothing changed.
-abbrev pub WritesAnswer : List ℕ → TheList → Result Unit WriteFault → Desk → Desk → Type 0
+abbrev pub WritesAnswer : List ℕ → MoveListView → Result Unit WriteFault → Desk → Desk → Type 0
 WritesAnswer project list (Ok done) before after =
     after ≡ record before { files = insert before.files (mar_name project) (text_of list); made_name = after.made_name; made = after.made }
 WritesAnswer project list (Err fault) before after =
@@ -60,7 +60,7 @@ pub record LeavesBegun (project : List ℕ) (book : Book) (before after : Desk) 
 
 -- the whole of a run for a project, before a refusal is said
 abbrev pub Answers : List ℕ → Book → Result Unit RunFault → Desk → Desk → Type 0
-Answers project book (Ok done) before after = IsAnswered project book before after
+Answers project book (Ok done) before after = WritesMarkovBasis project book before after
 Answers project book (Err (Input fault)) before after = IsFaulty (project_files before.files project) fault × OnlyRead before after
 Answers project book (Err Stopped) before after =
     ((stop : BookStop) × (book.stop ≡ Some stop) × HasStop (project_files before.files project) book stop) × OnlyRead before after

@@ -4,14 +4,14 @@ use Rattle.std.specs.List.{AllZip}
 use Rattle.std.proofs.lemmas.List.{get_or-replicate, length-replicate}
 use Rattle.std.proofs.lemmas.List.Elements.{All-cons, All-nil, All-map}
 use Rattle.mk_model.specs.Vectors.{weight}
-use Rattle.mk_model.specs.Lattices.{IsGrading, SameLattice, nonzero_rows}
+use Rattle.mk_model.specs.Lattices.{HasGrading, SameLattice, nonzero_rows}
 use Rattle.mk_model.specs.Saturation.{every_column, ConnectedUpTo}
 use Rattle.mk_model.specs.Tables.{Grid, cut, rows_of}
 use Rattle.mk_model.proofs.LatticeLaws.{AllColumns}
 use Rattle.mk_model.proofs.RowConnections.{connected_by_rows}
 use Rattle.mk_files.specs.Table.{IsTable}
 use Rattle.mk_move.specs.Moves.{Weighed}
-use Rattle.mk_move.specs.MoveLists.{TheBasis, IsBasis, vectors_of}
+use Rattle.mk_move.specs.MoveLists.{lattice_spanned, BasisView, IsBasis, vectors_of}
 use Rattle.mk_saturate.specs.Starts.{IsRowTurned, IsFirstUngraded}
 use Rattle.mk_saturate.specs.Saturations.{is_left, IsSaturation}
 use Rattle.mk_saturate.proofs.RowsTurned.{got_is, got_within}
@@ -35,7 +35,7 @@ pub rows_columns : (grid : Grid) → IsTable grid → AllColumns grid.columns (r
 rows_columns grid h = cut_columns grid.rows grid.columns grid.entries h.filled
 
 -- ---- the moves of a basis have its grading
-pub basis_graded : (basis : TheBasis) → IsBasis basis → IsGrading (length basis.grading) (vectors_of basis.moves) basis.grading
+pub basis_graded : (basis : BasisView) → IsBasis basis → HasGrading (lattice_spanned basis)
 basis_graded basis h = record {
   columns = refl;
   positive = λ c l. (h.grading.each c (pos 0) l).0;
@@ -44,7 +44,7 @@ basis_graded basis h = record {
 }
 
 -- ---- with every column unsaturated each basis is connected
-pub all_left_connected : (basis : TheBasis) → IsBasis basis → ConnectedUpTo (length basis.grading) (vectors_of basis.moves) (is_left (replicate (length basis.grading) true)) (vectors_of basis.moves)
+pub all_left_connected : (basis : BasisView) → IsBasis basis → ConnectedUpTo (length basis.grading) (vectors_of basis.moves) (is_left (replicate (length basis.grading) true)) (vectors_of basis.moves)
 all_left_connected basis h =
     connected_in_columns (length basis.grading) (vectors_of basis.moves) (vectors_of basis.moves) every_column (is_left (replicate (length basis.grading) true))
     (λ c l e. sym (get_or-replicate (length basis.grading) c true false l) ∙ e)
@@ -57,7 +57,7 @@ start_lattice grid p moves h z =
     (turned_lattice p grid.columns (nonzero_rows (rows_of grid)) moves z (nonzero_columns grid.columns (rows_of grid) (rows_columns grid h)))
 
 -- with every column unsaturated each basis of few moves is a saturation
-pub all_left : (n : ℕ) (basis : TheBasis) (left : List Bool) → IsBasis basis → length basis.grading ≡ n → left ≡ replicate n true → length basis.moves ≤ 4096 → IsSaturation (record { basis = basis; left = left })
+pub all_left : (n : ℕ) (basis : BasisView) (left : List Bool) → IsBasis basis → length basis.grading ≡ n → left ≡ replicate n true → length basis.moves ≤ 4096 → IsSaturation (record { basis = basis; left = left })
 all_left n basis left h same e few = record {
   kept = h;
   columns = ap length each ∙ length-replicate (length basis.grading) true;

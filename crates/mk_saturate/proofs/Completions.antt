@@ -5,17 +5,17 @@ use Rattle.std.proofs.lemmas.Bool.Decides.{Decides-eqb}
 use Rattle.std.proofs.lemmas.List.{get_or-set_other, get_or_past, append-nil, take_all, drop_all}
 use Rattle.mk_model.specs.Bases.{IsMarkov}
 use Rattle.mk_model.specs.CoreStates.{CoreState}
-use Rattle.mk_model.specs.Lattices.{IsGrading, SameLattice}
+use Rattle.mk_model.specs.Lattices.{lattice_of, HasGrading, SameLattice}
 use Rattle.mk_model.specs.Legal.{IsLegal}
 use Rattle.mk_model.specs.Orders.{standard}
 use Rattle.mk_model.specs.Pairs.{EveryPairJoined}
 use Rattle.mk_model.specs.Saturation.{without_column, ConnectedUpTo, drop_redundant, NoneRedundant}
 use Rattle.mk_model.proofs.Dropping.{drop_redundant_apart}
-use Rattle.mk_move.specs.MoveLists.{TheBasis, IsBasis, vectors_of}
+use Rattle.mk_move.specs.MoveLists.{BasisView, IsBasis, vectors_of}
 use Rattle.mk_core.specs.Phases.{state_of}
 use Rattle.mk_core.specs.SaturatedBases.{IsSaturated}
 use Rattle.mk_core.specs.declared.phase.Phase.{Phase}
-use Rattle.mk_saturate.specs.Saturations.{TheSaturation, is_left, IsSaturation, NoneLeft, IsPhaseOf, IsNeeded, IsDropped}
+use Rattle.mk_saturate.specs.Saturations.{SaturationView, is_left, IsSaturation, NoneLeft, IsPhaseFromBasis, IsNeeded, IsDropped}
 use Rattle.mk_saturate.proofs.Beginnings.{basis_graded}
 use Rattle.mk_saturate.proofs.Dropped.{connected_in_columns, drop_redundant_short, kept_lattice, kept_pairs, kept_markov, column_saturated}
 use Rattle.mk_saturate.proofs.TurnedMoves.{length-vectors}
@@ -51,7 +51,7 @@ written_back items new now column len l same e = ap (take len) (ap (λ rest. new
     none = drop_all (length new) items (omega (arith, size))
 
 -- ---- a completed phase that begins with the moves of a basis
-module _ (before : TheBasis) (p : List ℕ) (phase : Phase) (after : TheBasis) (kept : IsBasis before) (h : IsPhaseOf before p phase) (needed : IsNeeded phase after) where
+module _ (before : BasisView) (p : List ℕ) (phase : Phase) (after : BasisView) (kept : IsBasis before) (h : IsPhaseFromBasis before p phase) (needed : IsNeeded phase after) where
   abbrev n : ℕ
   n = length before.grading
 
@@ -61,7 +61,7 @@ module _ (before : TheBasis) (p : List ℕ) (phase : Phase) (after : TheBasis) (
   abbrev state : CoreState
   state = state_of phase (length phase.journal) 65536
 
-  graded : IsGrading n rows before.grading
+  graded : HasGrading (lattice_of n rows before.grading)
   graded = basis_graded before kept
 
   legal : IsLegal n p state
@@ -86,7 +86,7 @@ module _ (before : TheBasis) (p : List ℕ) (phase : Phase) (after : TheBasis) (
   leaves_few = omega (arith, length-vectors after.moves, ap length needed.moves, drop_redundant_short state.basis, legal.basis_within)
 
 -- the column that the list names first is saturated
-pub column_taken : (saturation : TheSaturation) (column : ℕ) (p : List ℕ) (phase : Phase) (after : TheBasis) (left : List Bool) → IsSaturation saturation → IsPhaseOf saturation.basis (column ∷ p) phase → IsNeeded phase after → left ≡ set saturation.left column false → IsSaturation (record { basis = after; left = left })
+pub column_taken : (saturation : SaturationView) (column : ℕ) (p : List ℕ) (phase : Phase) (after : BasisView) (left : List Bool) → IsSaturation saturation → IsPhaseFromBasis saturation.basis (column ∷ p) phase → IsNeeded phase after → left ≡ set saturation.left column false → IsSaturation (record { basis = after; left = left })
 column_taken saturation column p phase after left s h needed e = record {
   kept = needed.kept;
   columns = ap length e ∙ length-set saturation.left column false ∙ s.columns ∙ sym (ap length (same_grading before list phase after s.kept h needed));
@@ -94,7 +94,7 @@ column_taken saturation column p phase after left s h needed e = record {
   connected = after_has before list phase after s.kept h needed (λ n moves. ConnectedUpTo n moves (is_left left) moves) connected;
 }
   where
-    before : TheBasis
+    before : BasisView
     before = saturation.basis
 
     list : List ℕ
@@ -116,7 +116,7 @@ column_taken saturation column p phase after left s h needed e = record {
         (λ c l f. without_left saturation.left column c (ap (λ (flags : List Bool). is_left flags c) (sym e) ∙ f)) without
 
 -- along the standard list, with no column left, it leaves the saturated basis
-pub saturated : (saturation : TheSaturation) (phase : Phase) (after : TheBasis) → IsSaturation saturation → NoneLeft saturation.left → IsPhaseOf saturation.basis (standard (length saturation.basis.grading)) phase → IsNeeded phase after → IsSaturated after
+pub saturated : (saturation : SaturationView) (phase : Phase) (after : BasisView) → IsSaturation saturation → NoneLeft saturation.left → IsPhaseFromBasis saturation.basis (standard (length saturation.basis.grading)) phase → IsNeeded phase after → IsSaturated after
 saturated saturation phase after s none h needed = record {
   kept = needed.kept;
   standard_list = needed.priority ∙ h.priority ∙ ap (λ (w : List ℤ). standard (length w)) (sym (same_grading before list phase after s.kept h needed));
@@ -127,7 +127,7 @@ saturated saturation phase after s none h needed = record {
       (kept_markov n (vectors_of before.moves) before.grading list (basis_graded before s.kept) state of_state needed.completed.ended h.begun (is_left saturation.left) none s.connected);
 }
   where
-    before : TheBasis
+    before : BasisView
     before = saturation.basis
 
     list : List ℕ

@@ -6,7 +6,7 @@ use Rattle.std.proofs.lemmas.Bool.{cases_lt}
 use Rattle.std.proofs.lemmas.List.{get_or_past}
 use Rattle.std.proofs.lemmas.List.Elements.{All-contains}
 use Rattle.mk_model.specs.Vectors.{entry, zeros, add, subtract, negate, IsPoint}
-use Rattle.mk_model.specs.Lattices.{InLattice, IsGrading, SameLattice}
+use Rattle.mk_model.specs.Lattices.{lattice_of, InLattice, HasGrading, SameLattice}
 use Rattle.mk_model.specs.Orders.{lead, tail}
 use Rattle.mk_model.specs.Bases.{IsMarkov}
 use Rattle.mk_model.specs.Pairs.{AreOrientedMoves, EveryPairJoined}
@@ -94,11 +94,11 @@ in_front (suc k) [] x h = h
 in_front (suc k) (y ∷ xs) x h = ⊎_elim (λ e. subst (Contains (y ∷ xs)) e (Contains-here y xs)) (λ c. Contains-there y xs x (in_front k xs x c)) (Contains-cases y (take k xs) x h)
 
 -- ---- a completed list that begins with the rows, turned
-module _ (n : ℕ) (rows : List (List ℤ)) (w : List ℤ) (p : List ℕ) (g : IsGrading n rows w) (state : CoreState) (legal : IsLegal n p state) (ended : IsEnded state) (begun : AllZip (IsRowTurned p) rows (start_of state)) where
-  start_moves : AreOrientedMoves n rows w p (start_of state)
+module _ (n : ℕ) (rows : List (List ℤ)) (w : List ℤ) (p : List ℕ) (g : HasGrading (lattice_of n rows w)) (state : CoreState) (legal : IsLegal n p state) (ended : IsEnded state) (begun : AllZip (IsRowTurned p) rows (start_of state)) where
+  start_moves : AreOrientedMoves (lattice_of n rows w) p (start_of state)
   start_moves = turned_moves p n rows (start_of state) begun w g
 
-  pub all_moves : AreOrientedMoves n rows w p state.basis
+  pub all_moves : AreOrientedMoves (lattice_of n rows w) p state.basis
   all_moves = (legal_sound n rows w p state legal start_moves).oriented
 
   pub all_pairs : EveryPairJoined n p state.basis
@@ -150,7 +150,7 @@ module _ (n : ℕ) (rows : List (List ℤ)) (w : List ℤ) (p : List ℕ) (g : I
       (kept_connected unsaturated (basis_connected unsaturated connected))
 
 -- the first column of the list is saturated
-pub column_saturated : (n : ℕ) (rows : List (List ℤ)) (w : List ℤ) (column : ℕ) (p : List ℕ) → IsGrading n rows w → (state : CoreState) → IsLegal n (column ∷ p) state → IsEnded state → AllZip (IsRowTurned (column ∷ p)) rows (start_of state) →
+pub column_saturated : (n : ℕ) (rows : List (List ℤ)) (w : List ℤ) (column : ℕ) (p : List ℕ) → HasGrading (lattice_of n rows w) → (state : CoreState) → IsLegal n (column ∷ p) state → IsEnded state → AllZip (IsRowTurned (column ∷ p)) rows (start_of state) →
     (unsaturated : ℕ → Bool) → ConnectedUpTo n rows unsaturated rows → ConnectedUpTo n (drop_redundant state.basis) (without_column unsaturated column) (drop_redundant state.basis)
 column_saturated n rows w column p g state legal ended begun unsaturated connected =
     kept_connected n rows w (column ∷ p) g state legal ended begun (without_column unsaturated column)

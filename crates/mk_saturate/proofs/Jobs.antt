@@ -2,14 +2,14 @@
 use Rattle.std.proofs.Common.{ℕ, List, ℤ, length, arith, sym, ◌∙◌, subst}
 use Rattle.std.specs.List.{AllZip}
 use Rattle.std.proofs.lemmas.List.{take_all}
-use Rattle.mk_move.specs.MoveLists.{TheBasis, vectors_of}
+use Rattle.mk_move.specs.MoveLists.{BasisView, vectors_of}
 use Rattle.mk_core.specs.Phases.{ledger_for, IsPhaseFrom}
 use Rattle.mk_core.specs.declared.phase.Job.{Job}
 use Rattle.mk_core.specs.declared.phase.Phase.{Phase}
 use Rattle.mk_saturate.specs.Starts.{IsRowTurned}
-use Rattle.mk_saturate.specs.Saturations.{IsJob, IsPhaseOf}
+use Rattle.mk_saturate.specs.Saturations.{IsJob, IsPhaseFromBasis}
 
-pub phase_of_job : (basis : TheBasis) (p : List ℕ) (budget : ℕ) (job : Job) (phase : Phase) → IsJob basis p budget job → IsPhaseFrom (ledger_for job) phase → IsPhaseOf basis p phase
+pub phase_of_job : (basis : BasisView) (p : List ℕ) (budget : ℕ) (job : Job) (phase : Phase) → IsJob basis p budget job → IsPhaseFrom (ledger_for job) phase → IsPhaseFromBasis basis p phase
 phase_of_job basis p budget job phase h from = record {
   priority = from.priority ∙ h.priority;
   grading = from.grading ∙ h.grading;

@@ -9,8 +9,8 @@ use Rattle.mk_model.specs.Tables.{cut}
 use Rattle.mk_model.proofs.VectorAlgebra.{only_zeros, weight-zeros}
 use Rattle.mk_model.proofs.LatticeLaws.{is_zero-entries}
 use Rattle.mk_move.specs.Moves.{Weighed, ReadsRow}
-use Rattle.mk_move.specs.MoveLists.{TheBasis, vectors_of}
-use Rattle.mk_saturate.specs.Starts.{IsRowTurned, Starts, PutsOn, with_move}
+use Rattle.mk_move.specs.MoveLists.{BasisView, vectors_of}
+use Rattle.mk_saturate.specs.Starts.{IsRowTurned, Starts, PutsOn, with_start}
 use Rattle.mk_move.proofs.Belongings.{BelongsTo-of_row}
 
 pub length-cut : (rows columns : ℕ) (entries : List ℤ) → length (cut rows columns entries) ≡ rows
@@ -50,12 +50,12 @@ module _ (rows : List (List ℤ)) (r : ℕ) (row : List ℤ) (at : slice_get row
       ∙ ap (λ x. nonzero_rows (take r rows) ++ cond (not (is_zero x)) (x ∷ []) []) (got_is rows r row [] at)
       ∙ ap (λ z. nonzero_rows (take r rows) ++ cond (not z) (row ∷ []) []) e
 
-  module _ (w : List ℤ) (p : List ℕ) (basis : TheBasis) (h : Starts (take r rows) w p (Ok basis)) where
+  module _ (w : List ℤ) (p : List ℕ) (basis : BasisView) (h : Starts (take r rows) w p (Ok basis)) where
     graded_more : weight w row ≡ pos 0 → All (λ row. weight w row ≡ pos 0) (take (r + 1) rows)
     graded_more z =
         All-more (λ row. weight w row ≡ pos 0) rows r [] (got_within rows r row at) h.1 (ap (weight w) (got_is rows r row [] at) ∙ z)
 
-    turned : (found : Option Weighed) → ReadsRow row w p (Ok found) → AllZip (IsRowTurned p) (nonzero_rows (take (r + 1) rows)) (vectors_of (with_move basis.moves found))
+    turned : (found : Option Weighed) → ReadsRow row w p (Ok found) → AllZip (IsRowTurned p) (nonzero_rows (take (r + 1) rows)) (vectors_of (with_start basis.moves found))
     turned None z = subst (λ xs. AllZip (IsRowTurned p) xs (vectors_of basis.moves)) (sym (one_more true (zero_row row z) ∙ append-nil (nonzero_rows (take r rows)))) h.0.moves
     turned (Some m) (z, k) =
         subst (λ ys. AllZip (IsRowTurned p) (nonzero_rows (take (r + 1) rows)) ys) (sym (map-append (λ (m : Weighed). m.entries) basis.moves (m ∷ [])))
@@ -66,17 +66,17 @@ module _ (rows : List (List ℤ)) (r : ℕ) (row : List ℤ) (at : slice_get row
     product None z = ap (weight w) z ∙ weight-zeros w (length row)
     product (Some m) (z, k) = z
 
-    pub row_taken : (found : Option Weighed) (after : TheBasis) → ReadsRow row w p (Ok found) → after ≡ record basis { moves = with_move basis.moves found } → Starts (take (r + 1) rows) w p (Ok after)
+    pub row_taken : (found : Option Weighed) (after : BasisView) → ReadsRow row w p (Ok found) → after ≡ record basis { moves = with_start basis.moves found } → Starts (take (r + 1) rows) w p (Ok after)
     row_taken found after k e =
         subst (λ b. Starts (take (r + 1) rows) w p (Ok b)) (sym e)
         (record { priority = h.0.priority; grading = h.0.grading; moves = turned found k }, graded_more (product found k))
 
-pub length-with_move : (moves : List Weighed) (found : Option Weighed) (r : ℕ) → length moves ≤ r → length (with_move moves found) ≤ r + 1
+pub length-with_move : (moves : List Weighed) (found : Option Weighed) (r : ℕ) → length moves ≤ r → length (with_start moves found) ≤ r + 1
 length-with_move moves None r l = omega (arith, l)
 length-with_move moves (Some m) r l = omega (arith, l, length-append moves (m ∷ []))
 
 -- what is put at the end belongs there
-pub puts_on : (basis : TheBasis) (row : List ℤ) (found : Option Weighed) (r : ℕ) → length row ≡ length basis.priority → ReadsRow row basis.grading basis.priority (Ok found) →
+pub puts_on : (basis : BasisView) (row : List ℤ) (found : Option Weighed) (r : ℕ) → length row ≡ length basis.priority → ReadsRow row basis.grading basis.priority (Ok found) →
     length basis.moves ≤ r → r ≤ 4096 → PutsOn basis found
 puts_on basis row None r e h l few = tt
 puts_on basis row (Some m) r e h l few = (BelongsTo-of_row row basis.grading basis.priority m e h, omega (arith, l, few))

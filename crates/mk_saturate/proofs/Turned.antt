@@ -3,7 +3,7 @@ use Rattle.std.proofs.Common.{◌≡◌, ◌⊎◌, inl, inr, ℕ, List, [], ◌
 use Rattle.std.specs.List.{AllZip}
 use Rattle.std.proofs.lemmas.List.Elements.{All-contains}
 use Rattle.mk_model.specs.Vectors.{add, subtract, negate, weight}
-use Rattle.mk_model.specs.Lattices.{InLattice, IsGrading, SameLattice}
+use Rattle.mk_model.specs.Lattices.{lattice_of, InLattice, HasGrading, SameLattice}
 use Rattle.mk_model.specs.Orders.{IsOriented}
 use Rattle.mk_model.specs.Pairs.{AreOrientedMoves}
 use Rattle.mk_model.specs.Walks.{IsStep, Members, Joined}
@@ -68,7 +68,7 @@ module _ (p : List ℕ) (n : ℕ) (rows moves : List (List ℤ)) (z : AllZip (Is
   pub turned_oriented : All (IsOriented p) moves
   turned_oriented = All-from_contains (IsOriented p) moves (λ move h. let (row, c, t) = row_of p rows moves z move h in t.oriented)
 
-  pub turned_moves : (w : List ℤ) → IsGrading n rows w → AreOrientedMoves n rows w p moves
+  pub turned_moves : (w : List ℤ) → HasGrading (lattice_of n rows w) → AreOrientedMoves (lattice_of n rows w) p moves
   turned_moves w g = record {
     grading = g;
     in_lattice = All-from_contains (InLattice n rows) moves

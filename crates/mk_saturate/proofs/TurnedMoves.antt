@@ -4,7 +4,7 @@ use Rattle.std.specs.List.{AllZip}
 use Rattle.std.proofs.lemmas.List.{take_more, map-append, length-map}
 use Rattle.std.proofs.lemmas.List.Elements.{AllZip-push}
 use Rattle.mk_move.specs.Moves.{Weighed, IsRowOriented, IsGraded}
-use Rattle.mk_move.specs.MoveLists.{TheBasis, BelongsTo, vectors_of}
+use Rattle.mk_move.specs.MoveLists.{BasisView, BelongsTo, vectors_of}
 use Rattle.mk_move.proofs.Parts.{length-oriented}
 use Rattle.mk_saturate.specs.Starts.{IsRowTurned}
 use Rattle.mk_saturate.specs.Saturations.{IsTurnedOnto}
@@ -30,7 +30,7 @@ entries_at (r ∷ rows) (suc k) row e = entries_at rows k row e
 pub length-vectors : (moves : List Weighed) → length (vectors_of moves) ≡ length moves
 length-vectors moves = length-map moves (λ (m : Weighed). m.entries)
 
-pub turned_more : (p : List ℕ) (rows : List Weighed) (k : ℕ) (row : Weighed) (turned after : TheBasis) → slice_get rows k ≡ Some row → turned.priority ≡ p → AllZip (IsRowTurned p) (take k (vectors_of rows)) (vectors_of turned.moves) → IsTurnedOnto turned row after → AllZip (IsRowTurned p) (take (k + 1) (vectors_of rows)) (vectors_of after.moves)
+pub turned_more : (p : List ℕ) (rows : List Weighed) (k : ℕ) (row : Weighed) (turned after : BasisView) → slice_get rows k ≡ Some row → turned.priority ≡ p → AllZip (IsRowTurned p) (take k (vectors_of rows)) (vectors_of turned.moves) → IsTurnedOnto turned row after → AllZip (IsRowTurned p) (take (k + 1) (vectors_of rows)) (vectors_of after.moves)
 turned_more p rows k row turned after at same z h =
     subst (λ xs. AllZip (IsRowTurned p) xs (vectors_of after.moves)) (sym front)
     (subst (λ ys. AllZip (IsRowTurned p) (take k (vectors_of rows) ++ row.entries ∷ []) ys) (sym back)
@@ -41,4 +41,4 @@ turned_more p rows k row turned after at same z h =
     front = take_more (vectors_of rows) k [] (omega (arith, got_within rows k row at, length-vectors rows)) ∙ ap (λ x. take k (vectors_of rows) ++ x ∷ []) (entries_at rows k row at)
 
     back : vectors_of after.moves ≡ vectors_of turned.moves ++ h.move.entries ∷ []
-    back = ap (λ (b : TheBasis). vectors_of b.moves) h.pushed ∙ map-append (λ (m : Weighed). m.entries) turned.moves (h.move ∷ [])
+    back = ap (λ (b : BasisView). vectors_of b.moves) h.pushed ∙ map-append (λ (m : Weighed). m.entries) turned.moves (h.move ∷ [])

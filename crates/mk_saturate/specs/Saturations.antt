@@ -5,7 +5,7 @@ use Rattle.std.specs.List.{AllZip}
 use Rattle.mk_model.specs.Lattices.{SameLattice}
 use Rattle.mk_model.specs.Saturation.{ConnectedUpTo, drop_redundant}
 use Rattle.mk_move.specs.Moves.{Weighed}
-use Rattle.mk_move.specs.MoveLists.{TheBasis, IsBasis, vectors_of}
+use Rattle.mk_move.specs.MoveLists.{BasisView, IsBasis, vectors_of}
 use Rattle.mk_move.specs.Priorities.{others}
 use Rattle.mk_core.specs.Phases.{IsCompleted}
 use Rattle.mk_core.specs.declared.phase.Job.{Job}
@@ -13,8 +13,8 @@ use Rattle.mk_core.specs.declared.phase.Phase.{Phase}
 use Rattle.mk_saturate.specs.Starts.{IsRowTurned}
 
 -- the moves so far, and whether each column is unsaturated
-pub record TheSaturation : Type 0 where
-  pub basis : TheBasis
+pub record SaturationView : Type 0 where
+  pub basis : BasisView
   pub left : List Bool
 
 -- is a column unsaturated
@@ -22,7 +22,7 @@ abbrev pub is_left : List Bool → ℕ → Bool
 is_left left column = get_or left column false
 
 -- The moves connect, up to the unsaturated columns, all nonnegative vectors that differ by the lattice which they span.
-pub record IsSaturation (saturation : TheSaturation) : Type 0 where
+pub record IsSaturation (saturation : SaturationView) : Type 0 where
   pub kept : IsBasis saturation.basis
   pub columns : length saturation.left ≡ length saturation.basis.grading
   pub few : length saturation.basis.moves ≤ 65536
@@ -38,13 +38,13 @@ abbrev pub NoneLeft : List Bool → Type 0
 NoneLeft left = (c : ℕ) → is_left left c ≡ false
 
 -- a move at the end, the vector of another turned by the list
-pub record IsTurnedOnto (basis : TheBasis) (row : Weighed) (after : TheBasis) : Type 0 where
+pub record IsTurnedOnto (basis : BasisView) (row : Weighed) (after : BasisView) : Type 0 where
   pub move : Weighed
   pub turned : IsRowTurned basis.priority row.entries move.entries
   pub pushed : after ≡ record basis { moves = basis.moves ++ move ∷ [] }
 
 -- a job over the moves so far, along a list
-pub record IsJob (basis : TheBasis) (p : List ℕ) (budget : ℕ) (job : Job) : Type 0 where
+pub record IsJob (basis : BasisView) (p : List ℕ) (budget : ℕ) (job : Job) : Type 0 where
   pub priority : job.start.priority ≡ p
   pub grading : job.start.grading ≡ basis.grading
   pub begun : AllZip (IsRowTurned p) (vectors_of basis.moves) (vectors_of job.start.moves)
@@ -53,19 +53,19 @@ pub record IsJob (basis : TheBasis) (p : List ℕ) (budget : ℕ) (job : Job) : 
   pub limit : job.basis_limit ≡ 65536
 
 -- the job of the least unsaturated column, or none where no column is left
-abbrev pub IsNextJob : TheSaturation → ℕ → Option Job → Type 0
+abbrev pub IsNextJob : SaturationView → ℕ → Option Job → Type 0
 IsNextJob saturation budget None = NoneLeft saturation.left
 IsNextJob saturation budget (Some job) =
     (column : ℕ) × IsLeastLeft saturation.left column × IsJob saturation.basis (column ∷ others column (length saturation.basis.grading)) budget job
 
 -- a phase that begins with the moves so far, along a list
-pub record IsPhaseOf (basis : TheBasis) (p : List ℕ) (phase : Phase) : Type 0 where
+pub record IsPhaseFromBasis (basis : BasisView) (p : List ℕ) (phase : Phase) : Type 0 where
   pub priority : phase.basis.priority ≡ p
   pub grading : phase.basis.grading ≡ basis.grading
   pub begun : AllZip (IsRowTurned p) (vectors_of basis.moves) (take phase.start_len (vectors_of phase.basis.moves))
 
 -- a basis of the moves of a completed phase that are not redundant
-pub record IsNeeded (phase : Phase) (after : TheBasis) : Type 0 where
+pub record IsNeeded (phase : Phase) (after : BasisView) : Type 0 where
   pub completed : IsCompleted phase
   pub kept : IsBasis after
   pub priority : after.priority ≡ phase.basis.priority
@@ -73,7 +73,7 @@ pub record IsNeeded (phase : Phase) (after : TheBasis) : Type 0 where
   pub moves : vectors_of after.moves ≡ drop_redundant (vectors_of phase.basis.moves)
 
 -- the moves that a completed phase leaves: those that are not redundant, of the same lattice
-pub record IsDropped (before : TheBasis) (phase : Phase) (after : TheBasis) : Type 0 where
+pub record IsDropped (before : BasisView) (phase : Phase) (after : BasisView) : Type 0 where
   pub priority : after.priority ≡ phase.basis.priority
   pub grading : after.grading ≡ before.grading
   pub moves : vectors_of after.moves ≡ drop_redundant (vectors_of phase.basis.moves)

@@ -6,7 +6,7 @@ ghost use Rattle.mk_model.specs.Vectors.{weight};
 ghost use Rattle.mk_move.specs.MoveLists.{vectors_of};
 ghost use Rattle.mk_move.specs.Priorities.{others};
 ghost use Rattle.mk_saturate.specs.Starts.{IsStart};
-ghost use Rattle.mk_saturate.specs.Saturations.{is_left, IsSaturation, IsLeastLeft, NoneLeft, IsJob, IsNextJob, IsPhaseOf, IsNeeded, IsDropped};
+ghost use Rattle.mk_saturate.specs.Saturations.{is_left, IsSaturation, IsLeastLeft, NoneLeft, IsJob, IsNextJob, IsPhaseFromBasis, IsNeeded, IsDropped};
 
 use crate::columns::{least_left, saturate_least};
 use crate::start::start_basis;
@@ -27,9 +27,9 @@ pub struct Saturation {
 }
 
 impl Model for Saturation {
-    ghost use Rattle.mk_saturate.specs.Saturations.{TheSaturation, IsSaturation};
+    ghost use Rattle.mk_saturate.specs.Saturations.{SaturationView, IsSaturation};
 
-    ghost Value = { TheSaturation };
+    ghost Value = { SaturationView };
 
     ghost view = { λ s. record { basis = s.basis; left = s.left.items } };
 
@@ -74,7 +74,7 @@ impl Saturation {
     /// Takes what completes the next job: its moves that are not redundant are the moves from now on, and its column is
     /// saturated. After a refusal all is as before.
     pub fn accept(&mut self, alloc: Global, completed: &Completed) -> Result<(), NoMemory>
-        requires { (column : ℕ) × IsLeastLeft self.old.left column × IsPhaseOf self.old.basis (column ∷ others column (length self.old.basis.grading)) completed.now }
+        requires { (column : ℕ) × IsLeastLeft self.old.left column × IsPhaseFromBasis self.old.basis (column ∷ others column (length self.old.basis.grading)) completed.now }
         ensures basis { OnOk result (IsDropped self.old.basis completed.now self.new.basis) }
         ensures left { OnOk result ((column : ℕ) × IsLeastLeft self.old.left column × (self.new.left ≡ set self.old.left column false)) }
         ensures err { OnErr result (self.new ≡ self.old) }
@@ -97,7 +97,7 @@ impl Saturation {
     /// The saturated basis that completing the last job gives: its moves that are not redundant.
     pub fn finish(&self, alloc: Global, completed: &Completed) -> Result<SaturatedBasis, NoMemory>
         requires none_left { NoneLeft self.now.left }
-        requires last { IsPhaseOf self.now.basis (standard (length self.now.basis.grading)) completed.now }
+        requires last { IsPhaseFromBasis self.now.basis (standard (length self.now.basis.grading)) completed.now }
         ensures { IfOk result (IsDropped self.now.basis completed.now) }
     {
         // What a saturation keeps is known once a field is used.

@@ -6,11 +6,11 @@ use Rattle.std.proofs.lemmas.List.{get_or-replicate, length-replicate, get_or-se
 use Rattle.mk_model.specs.Lattices.{nonzero_rows, SameLattice}
 use Rattle.mk_model.specs.Orders.{standard}
 use Rattle.mk_model.specs.Tables.{Grid, rows_of}
-use Rattle.mk_move.specs.MoveLists.{TheBasis, vectors_of}
+use Rattle.mk_move.specs.MoveLists.{BasisView, vectors_of}
 use Rattle.mk_move.specs.Priorities.{others}
 use Rattle.mk_core.specs.declared.phase.Job.{Job}
 use Rattle.mk_saturate.specs.Starts.{IsStart}
-use Rattle.mk_saturate.specs.Saturations.{TheSaturation, is_left, IsLeastLeft, NoneLeft, IsJob, IsNextJob}
+use Rattle.mk_saturate.specs.Saturations.{SaturationView, is_left, IsLeastLeft, NoneLeft, IsJob, IsNextJob}
 use Rattle.mk_saturate.proofs.Completions.{left_within}
 use Rattle.mk_solve.specs.Books.{Book, empty_book, settled_of}
 use Rattle.mk_solve.specs.Solutions.{lists_for, Solves}
@@ -21,7 +21,7 @@ use Rattle.mk_solve.proofs.Sums.{none_settled, length-push}
 use Rattle.mk_solve.proofs.Reached.{either_turned, IsReached, reached_on, stopped_solves}
 
 -- The columns from one on are left, as many as the count says, and for each column before it the book has a phase.
-pub record IsSaturating (rows : List (List ℤ)) (w : List ℤ) (budget : ℕ) (saturation : TheSaturation) (book : Book) : Type 0 where
+pub record IsSaturating (rows : List (List ℤ)) (w : List ℤ) (budget : ℕ) (saturation : SaturationView) (book : Book) : Type 0 where
   pub count : ℕ
   pub rest : List (List ℤ)
   pub columns : length book.phases + count ≡ length w
@@ -34,7 +34,7 @@ pub record IsSaturating (rows : List (List ℤ)) (w : List ℤ) (budget : ℕ) (
 pub nothing_kept : (grid : Grid) (w : List ℤ) (budget : ℕ) (book : Book) → book ≡ empty_book → Solves grid w budget (Err Memory) book
 nothing_kept grid w budget book e = subst (λ (b : Book). Solves grid w budget (Err Memory) b) (sym e) (refl, refl, omega (arith, none_settled))
 
-pub begins : (rows : List (List ℤ)) (w : List ℤ) (n budget : ℕ) (saturation : TheSaturation) (book : Book) → length w ≡ n → IsStart rows w (standard n) saturation.basis →
+pub begins : (rows : List (List ℤ)) (w : List ℤ) (n budget : ℕ) (saturation : SaturationView) (book : Book) → length w ≡ n → IsStart rows w (standard n) saturation.basis →
     saturation.left ≡ replicate n true → SameLattice n rows (vectors_of saturation.basis.moves) → book ≡ empty_book → IsSaturating rows w budget saturation book
 begins rows w n budget saturation book same start left lattice e = subst (λ (b : Book). IsSaturating rows w budget saturation b) (sym e) (record {
   count = length w;
@@ -55,7 +55,7 @@ begins rows w n budget saturation book same start left lattice e = subst (λ (b 
   };
 })
 
-module _ (rows : List (List ℤ)) (w : List ℤ) (budget : ℕ) (saturation : TheSaturation) (book : Book) (h : IsSaturating rows w budget saturation book) where
+module _ (rows : List (List ℤ)) (w : List ℤ) (budget : ℕ) (saturation : SaturationView) (book : Book) (h : IsSaturating rows w budget saturation book) where
   -- ---- the next column
   column_within : (column : ℕ) → IsLeastLeft saturation.left column → column < length w
   column_within column least = omega (arith, left_within saturation.left column least.left_over, h.sized)
@@ -100,7 +100,7 @@ module _ (rows : List (List ℤ)) (w : List ℤ) (budget : ℕ) (saturation : Th
   room job next few = let (column, more, at) = at_column job next in omega (arith, at.counted, at.columns, few)
 
   -- ---- the column is saturated, or its phase stopped
-  pub column_done : (job : Job) → IsNextJob saturation (budget - settled_of book.phases) (Some job) → (next : TheSaturation) (after : Book) → TakesPhase job saturation.basis book next.basis after →
+  pub column_done : (job : Job) → IsNextJob saturation (budget - settled_of book.phases) (Some job) → (next : SaturationView) (after : Book) → TakesPhase job saturation.basis book next.basis after →
       IsLeastTaken saturation.left next.left → IsSaturating rows w budget next after
   column_done job n next after t (taken, least, e) = go (at_column job n)
     where
@@ -144,7 +144,7 @@ module _ (rows : List (List ℤ)) (w : List ℤ) (budget : ℕ) (saturation : Th
   pub without_memory : (grid : Grid) → (after : Book) → after ≡ book → Solves grid w budget (Err Memory) after
   without_memory grid after e = subst (λ (b : Book). Solves grid w budget (Err Memory) b) (sym e) (h.reached.stop, h.reached.input, h.reached.within)
 
-  pub column_refused : (job : Job) → IsNextJob saturation (budget - settled_of book.phases) (Some job) → (grid : Grid) → rows_of grid ≡ rows → (next : TheSaturation) (after : Book) (fault : RunStop) →
+  pub column_refused : (job : Job) → IsNextJob saturation (budget - settled_of book.phases) (Some job) → (grid : Grid) → rows_of grid ≡ rows → (next : SaturationView) (after : Book) (fault : RunStop) →
       TakesColumn saturation job book (Err fault) next after → Solves grid w budget (Err fault) after
   column_refused job n grid same next after Memory e = without_memory grid after e
   column_refused job n grid same next after Stopped s = column_stopped job n grid same after s
@@ -165,7 +165,7 @@ module _ (rows : List (List ℤ)) (w : List ℤ) (budget : ℕ) (saturation : Th
   last_job : (job : Job) → IsJob saturation.basis (standard (length saturation.basis.grading)) (budget - settled_of book.phases) job → IsJob saturation.basis (standard (length w)) (budget - settled_of book.phases) job
   last_job job j = subst (λ n. IsJob saturation.basis (standard n) (budget - settled_of book.phases) job) (ap length h.reached.grading) j
 
-  pub all_done : NoneLeft saturation.left → (job : Job) → IsJob saturation.basis (standard (length saturation.basis.grading)) (budget - settled_of book.phases) job → (saturated : TheBasis) (after : Book) →
+  pub all_done : NoneLeft saturation.left → (job : Job) → IsJob saturation.basis (standard (length saturation.basis.grading)) (budget - settled_of book.phases) job → (saturated : BasisView) (after : Book) →
       TakesPhase job saturation.basis book saturated after → IsReached rows w budget (vectors_of saturated.moves) saturated after []
   all_done none job j saturated after t =
       reached_on rows w budget h.rest saturation.basis book (standard (length w)) [] (reached_all none) job (last_job job j) saturated after t
@@ -181,6 +181,6 @@ module _ (rows : List (List ℤ)) (w : List ℤ) (budget : ℕ) (saturation : Th
   last_refused none job j grid same after Stopped s = last_stopped none job j grid same after s
 
 -- a column less is left
-pub fewer : (w : List ℤ) (rows : List (List ℤ)) (budget : ℕ) (job : Job) (moves : TheBasis) (book : Book) (next : TheSaturation) (after : Book) → TakesPhase job moves book next.basis after →
+pub fewer : (w : List ℤ) (rows : List (List ℤ)) (budget : ℕ) (job : Job) (moves : BasisView) (book : Book) (next : SaturationView) (after : Book) → TakesPhase job moves book next.basis after →
     IsSaturating rows w budget next after → length w - length after.phases < length w - length book.phases
 fewer w rows budget job moves book next after t h = omega (arith, h.columns, ap (λ (b : Book). length b.phases) t.kept, length-push book.phases t.phase)

@@ -8,7 +8,7 @@ use Rattle.mk_core.specs.declared.phase.Job.{Job}
 use Rattle.mk_core.specs.declared.phase.Phase.{Phase}
 use Rattle.mk_core.specs.declared.phase.Stopped.TheVariants as core
 use Rattle.mk_solve.specs.Books.{Book, settled_of}
-use Rattle.mk_solve.specs.Steps.{stopped_at, KeepsStop, IsCause, Completes}
+use Rattle.mk_solve.specs.Steps.{stopped_at, KeepsStop, IsPhaseStop, Completes}
 use Rattle.mk_solve.specs.declared.book.BookStop.{BookStop}
 use Rattle.mk_solve.specs.declared.book.BookStop.TheVariants.{Overflow, Budget, BasisFull}
 use Rattle.mk_solve.specs.declared.book.OverflowPlace.TheVariants.{Pair}
@@ -31,7 +31,7 @@ sum_with book after phase stop e = ap (λ (b : Book). settled_of b.phases) e ∙
 
 -- a stop that is kept, with its cause
 stops : (job : Job) (before : Book) (phase : Phase) (stop : BookStop) (result : RunStop) (after : Book) → IsPhaseFrom (ledger_for job) phase →
-    (after ≡ stopped_at before phase stop → IsCause job (length before.phases) (settled_of after.phases) phase stop) →
+    (after ≡ stopped_at before phase stop → IsPhaseStop job (length before.phases) (settled_of after.phases) phase stop) →
     KeepsStop before phase stop result after → Completes job before (Err result) after
 stops job before phase stop Memory after from cause e = e
 stops job before phase stop Stopped after from cause e = record { phase = phase; stop = stop; from = from; cause = cause e; kept = e }

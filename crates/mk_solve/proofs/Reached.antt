@@ -10,18 +10,18 @@ use Rattle.mk_model.specs.Tables.{Grid, rows_of}
 use Rattle.mk_model.specs.Vectors.{negate}
 use Rattle.mk_model.proofs.VectorAlgebra.{negate-negate}
 use Rattle.mk_model.proofs.LegalEvents.{phase_is_legal}
-use Rattle.mk_move.specs.MoveLists.{TheBasis, vectors_of}
+use Rattle.mk_move.specs.MoveLists.{BasisView, vectors_of}
 use Rattle.mk_ledger.specs.Entries.{settle_of}
 use Rattle.mk_core.specs.Phases.{ledger_for, state_of, IsPhaseFrom, IsBasisFull}
 use Rattle.mk_core.specs.declared.phase.Job.{Job}
 use Rattle.mk_core.specs.declared.phase.Phase.{Phase}
 use Rattle.mk_saturate.specs.Starts.{IsRowTurned}
-use Rattle.mk_saturate.specs.Saturations.{IsJob, IsPhaseOf}
+use Rattle.mk_saturate.specs.Saturations.{IsJob, IsPhaseFromBasis}
 use Rattle.mk_saturate.proofs.Jobs.{phase_of_job}
 use Rattle.mk_saturate.proofs.Spans.{SameLattice-transitive}
 use Rattle.mk_solve.specs.Books.{Book, settled_of}
 use Rattle.mk_solve.specs.Solutions.{IsPhaseAlong, IsPhaseEnded, Saturate, SaturateRows, StandsAt, HasStopped, Solves}
-use Rattle.mk_solve.specs.Steps.{stopped_at, IsCause, StopsIn, TakesPhase}
+use Rattle.mk_solve.specs.Steps.{stopped_at, IsPhaseStop, StopsIn, TakesPhase}
 use Rattle.mk_solve.specs.declared.book.BookStop.{BookStop}
 use Rattle.mk_solve.specs.declared.book.BookStop.TheVariants.{Overflow, Budget, BasisFull}
 use Rattle.mk_solve.specs.declared.book.OverflowPlace.TheVariants.{Pair, Tail, Degree}
@@ -71,7 +71,7 @@ saturate_push w moves (q ∷ lists) (first ∷ phases) rest p left phase (a, b, 
     (a, b, saturate_push w (drop_redundant (vectors_of first.basis.moves)) lists phases rest p left phase h along ended)
 
 -- ---- the phase of a job over the moves
-module _ (w : List ℤ) (rest : List (List ℤ)) (basis : TheBasis) (p : List ℕ) (budget : ℕ) (job : Job) (phase : Phase)
+module _ (w : List ℤ) (rest : List (List ℤ)) (basis : BasisView) (p : List ℕ) (budget : ℕ) (job : Job) (phase : Phase)
     (turned : AllZip IsEither rest (vectors_of basis.moves)) (same : basis.grading ≡ w) (h : IsJob basis p budget job) (from : IsPhaseFrom (ledger_for job) phase) where
   legal_within : IsLegal (length job.start.grading) job.start.priority (state_of phase (length phase.journal) job.basis_limit)
   legal_within =
@@ -83,7 +83,7 @@ module _ (w : List ℤ) (rest : List (List ℤ)) (basis : TheBasis) (p : List �
       (subst (λ q. IsLegal (length w) q (state_of phase (length phase.journal) job.basis_limit)) h.priority
       (subst (λ v. IsLegal (length v) job.start.priority (state_of phase (length phase.journal) job.basis_limit)) (h.grading ∙ same) legal_within))
 
-  phase_of : IsPhaseOf basis p phase
+  phase_of : IsPhaseFromBasis basis p phase
   phase_of = phase_of_job basis p budget job phase h from
 
   pub phase_along : IsPhaseAlong w rest p phase
@@ -100,7 +100,7 @@ ended_within phase budget limit h = record { all_settled = h.all_settled; none_c
 
 -- ---- between two phases
 -- The phases of the book, which are ended, lead to `rest`, which are the moves but for their signs; these lists are left.
-pub record IsReached (rows : List (List ℤ)) (w : List ℤ) (budget : ℕ) (rest : List (List ℤ)) (basis : TheBasis) (book : Book) (left : List (List ℕ)) : Type 0 where
+pub record IsReached (rows : List (List ℤ)) (w : List ℤ) (budget : ℕ) (rest : List (List ℤ)) (basis : BasisView) (book : Book) (left : List (List ℕ)) : Type 0 where
   pub phases : SaturateRows rows w book.phases rest left
   pub turned : AllZip IsEither rest (vectors_of basis.moves)
   pub lattice : SameLattice (length w) rows (vectors_of basis.moves)
@@ -110,7 +110,7 @@ pub record IsReached (rows : List (List ℤ)) (w : List ℤ) (budget : ℕ) (res
   pub stop : book.stop ≡ None
   pub within : settled_of book.phases ≤ budget
 
-module _ (rows : List (List ℤ)) (w : List ℤ) (budget : ℕ) (rest : List (List ℤ)) (basis : TheBasis) (book : Book) (p : List ℕ) (left : List (List ℕ))
+module _ (rows : List (List ℤ)) (w : List ℤ) (budget : ℕ) (rest : List (List ℤ)) (basis : BasisView) (book : Book) (p : List ℕ) (left : List (List ℕ))
     (h : IsReached rows w budget rest basis book (p ∷ left)) (job : Job) (j : IsJob basis p (budget - settled_of book.phases) job) where
   along : (phase : Phase) → IsPhaseFrom (ledger_for job) phase → IsPhaseAlong w rest p phase
   along phase from = phase_along w rest basis p (budget - settled_of book.phases) job phase h.turned h.grading j from
@@ -120,7 +120,7 @@ module _ (rows : List (List ℤ)) (w : List ℤ) (budget : ℕ) (rest : List (Li
       let given = j.budget_given in omega (arith, settled_push book.phases phase, settled_within job phase from, h.within, given)
 
   -- a phase that is completed
-  pub reached_on : (taken : TheBasis) (after : Book) → TakesPhase job basis book taken after → IsReached rows w budget (vectors_of taken.moves) taken after left
+  pub reached_on : (taken : BasisView) (after : Book) → TakesPhase job basis book taken after → IsReached rows w budget (vectors_of taken.moves) taken after left
   reached_on taken after t = subst (λ (b : Book). IsReached rows w budget (vectors_of taken.moves) taken b left) (sym t.kept) (record {
     phases = subst (λ moves. SaturateRows rows w (book.phases ++ t.phase ∷ []) moves left) (sym t.dropped.moves) more;
     turned = either_itself (vectors_of taken.moves);
@@ -150,7 +150,7 @@ module _ (rows : List (List ℤ)) (w : List ℤ) (budget : ℕ) (rest : List (Li
     not_reduced = h.reduced;
   }
 
-  has_stopped : (phase : Phase) (stop : BookStop) → IsPhaseFrom (ledger_for job) phase → IsCause job (length book.phases) (settled_of (book.phases ++ phase ∷ [])) phase stop → HasStopped rows w budget (stopped_at book phase stop) stop
+  has_stopped : (phase : Phase) (stop : BookStop) → IsPhaseFrom (ledger_for job) phase → IsPhaseStop job (length book.phases) (settled_of (book.phases ++ phase ∷ [])) phase stop → HasStopped rows w budget (stopped_at book phase stop) stop
   has_stopped phase (Overflow (Pair number) stop) from (e, free, genuine) = (phase, stands phase (Overflow (Pair number) stop) number e from, free, genuine)
   has_stopped phase (Overflow (Tail index) stop) from cause = absurd cause
   has_stopped phase (Overflow Degree stop) from cause = absurd cause
@@ -161,7 +161,7 @@ module _ (rows : List (List ℤ)) (w : List ℤ) (budget : ℕ) (rest : List (Li
   has_stopped phase (BasisFull number i k) from (e, full) =
       (phase, stands phase (BasisFull number i k) number e from, subst (λ limit. IsBasisFull limit phase (pair_of i k)) j.limit full)
 
-  stopped_here : (phase : Phase) (stop : BookStop) → IsPhaseFrom (ledger_for job) phase → IsCause job (length book.phases) (settled_of (book.phases ++ phase ∷ [])) phase stop →
+  stopped_here : (phase : Phase) (stop : BookStop) → IsPhaseFrom (ledger_for job) phase → IsPhaseStop job (length book.phases) (settled_of (book.phases ++ phase ∷ [])) phase stop →
       (grid : Grid) → rows_of grid ≡ rows → Solves grid w budget (Err Stopped) (stopped_at book phase stop)
   stopped_here phase stop from cause grid e =
       (h.input, within_more phase from, (stop, refl, subst (λ r. HasStopped r w budget (stopped_at book phase stop) stop) (sym e) (has_stopped phase stop from cause)))
@@ -169,4 +169,4 @@ module _ (rows : List (List ℤ)) (w : List ℤ) (budget : ℕ) (rest : List (Li
   pub stopped_solves : (grid : Grid) → rows_of grid ≡ rows → (after : Book) → StopsIn job book after → Solves grid w budget (Err Stopped) after
   stopped_solves grid e after s =
       subst (λ (b : Book). Solves grid w budget (Err Stopped) b) (sym s.kept)
-      (stopped_here s.phase s.stop s.from (subst (λ (b : Book). IsCause job (length book.phases) (settled_of b.phases) s.phase s.stop) s.kept s.cause) grid e)
+      (stopped_here s.phase s.stop s.from (subst (λ (b : Book). IsPhaseStop job (length book.phases) (settled_of b.phases) s.phase s.stop) s.kept s.cause) grid e)

@@ -1,8 +1,8 @@
 -- Rows of the same lattice have the same answer.
 use Rattle.std.proofs.Common.{ℕ, List, ℤ, ◌⊎◌, inl, inr, Contains}
 use Rattle.std.proofs.lemmas.List.Elements.{All-weaker}
-use Rattle.mk_model.specs.Bases.{IsMarkov, IsMinimal, IsMove, MovesBefore, IsEssential, IsAnswer, IsTheAnswer}
-use Rattle.mk_model.specs.Lattices.{InLattice, SameLattice}
+use Rattle.mk_model.specs.Bases.{IsMarkov, IsMinimal, IsMove, MovesBefore, IsEssential, IsAnswer, IsMinimalMarkovBasis}
+use Rattle.mk_model.specs.Lattices.{lattice_of, InLattice, SameLattice}
 use Rattle.mk_model.specs.Orders.{lead, tail}
 use Rattle.mk_model.specs.Vectors.{subtract}
 use Rattle.mk_model.specs.Walks.{Joined}
@@ -13,7 +13,7 @@ move_of_others : {n : ℕ} {rows others : List (List ℤ)} → SameLattice n row
 move_of_others s m h = record { in_lattice = s.there m h.in_lattice; oriented = h.oriented }
 
 joined_of_others : {n : ℕ} {rows others : List (List ℤ)} (w : List ℤ) → SameLattice n rows others → (m : List ℤ) →
-    Joined n (MovesBefore n rows w m) (lead m) (tail m) → Joined n (MovesBefore n others w m) (lead m) (tail m)
+    Joined n (MovesBefore (lattice_of n rows w) m) (lead m) (tail m) → Joined n (MovesBefore (lattice_of n others w) m) (lead m) (tail m)
 joined_of_others w s m = walk_weaker (λ v (h, c). (move_of_others s v h, c)) (λ x p. p)
 
 markov_of_others : {n : ℕ} {rows others : List (List ℤ)} → SameLattice n rows others → (moves : List (List ℤ)) → IsMarkov n rows moves → IsMarkov n others moves
@@ -35,24 +35,24 @@ minimal_of_others s moves k place l = let (x, y, apart) = k place l in (
 )
 
 module _ {n : ℕ} {rows others : List (List ℤ)} {w : List ℤ} (s : SameLattice n rows others) where
-  essential_of_others : (m : List ℤ) → IsEssential n rows w m → IsEssential n others w m
+  essential_of_others : (m : List ℤ) → IsEssential (lattice_of n rows w) m → IsEssential (lattice_of n others w) m
   essential_of_others m e = record {
     move = move_of_others s m e.move;
     not_joined = λ j. e.not_joined (joined_of_others w (SameLattice-back s) m j);
   }
 
-  answer_of_others : (moves : List (List ℤ)) → IsAnswer n rows w moves → IsAnswer n others w moves
+  answer_of_others : (moves : List (List ℤ)) → IsAnswer (lattice_of n rows w) moves → IsAnswer (lattice_of n others w) moves
   answer_of_others moves a = record {
     ascending = a.ascending;
-    essential = All-weaker (IsEssential n rows w) (IsEssential n others w) essential_of_others moves a.essential;
+    essential = All-weaker (IsEssential (lattice_of n rows w)) (IsEssential (lattice_of n others w)) essential_of_others moves a.essential;
     complete = λ m h. go m (a.complete m (move_of_others (SameLattice-back s) m h));
   }
     where
-      go : (m : List ℤ) → Contains moves m ⊎ Joined n (MovesBefore n rows w m) (lead m) (tail m) → Contains moves m ⊎ Joined n (MovesBefore n others w m) (lead m) (tail m)
+      go : (m : List ℤ) → Contains moves m ⊎ Joined n (MovesBefore (lattice_of n rows w) m) (lead m) (tail m) → Contains moves m ⊎ Joined n (MovesBefore (lattice_of n others w) m) (lead m) (tail m)
       go m (inl c) = inl c
       go m (inr j) = inr (joined_of_others w s m j)
 
-pub the_answer_of_others : {n : ℕ} {rows others : List (List ℤ)} {w : List ℤ} {moves : List (List ℤ)} → SameLattice n rows others → IsTheAnswer n rows w moves → IsTheAnswer n others w moves
+pub the_answer_of_others : {n : ℕ} {rows others : List (List ℤ)} {w : List ℤ} {moves : List (List ℤ)} → SameLattice n rows others → IsMinimalMarkovBasis (lattice_of n rows w) moves → IsMinimalMarkovBasis (lattice_of n others w) moves
 the_answer_of_others {moves = moves} s a = record {
   answer = answer_of_others s moves a.answer;
   only = λ list b. a.only list (answer_of_others (SameLattice-back s) list b);

@@ -1,7 +1,7 @@
 -- How many pairs phases settled together.
 use Rattle.std.proofs.Common.{◌≡◌, ℕ, ◌+◌, ◌<◌, ◌^◌, List, [], ◌∷◌, ◌++◌, length, arith, refl, ap, length-append}
 use Rattle.mk_core.specs.declared.phase.Phase.{Phase}
-use Rattle.mk_solve.specs.Books.{settled_of, IsKept}
+use Rattle.mk_solve.specs.Books.{settled_of, IsBookKept}
 
 pub none_settled : settled_of [] ≡ 0
 unfolding settled_of
@@ -16,7 +16,7 @@ pub length-push : (phases : List Phase) (phase : Phase) → length (phases ++ ph
 length-push phases phase = omega (arith, length-append phases (phase ∷ []))
 
 -- a phase more
-pub kept_push : (settled more : ℕ) (phases after : List Phase) (phase : Phase) → IsKept settled phases → after ≡ phases ++ phase ∷ [] → more ≡ length phase.journal → length phases + 1 < 2 ^ 32 → IsKept (settled + more) after
+pub kept_push : (settled more : ℕ) (phases after : List Phase) (phase : Phase) → IsBookKept settled phases → after ≡ phases ++ phase ∷ [] → more ≡ length phase.journal → length phases + 1 < 2 ^ 32 → IsBookKept (settled + more) after
 kept_push settled more phases after phase h e m l = record {
   sum = omega (arith, h.sum, m, settled_push phases phase, ap settled_of e);
   few = omega (arith, l, length-push phases phase, ap (λ (xs : List Phase). length xs) e);

@@ -1,13 +1,13 @@
 -- The reduced basis of a run, and why there is none.
 use Rattle.std.proofs.Common.{◌≡◌, ℕ, List, [], length, Err, Some, ℤ, sym, ◌∙◌, subst, refl}
-use Rattle.mk_model.specs.Lattices.{SameLattice}
+use Rattle.mk_model.specs.Lattices.{lattice_of, SameLattice}
 use Rattle.mk_model.specs.ReducedBases.{IsReducedBasis}
 use Rattle.mk_model.specs.Tables.{Grid, rows_of}
-use Rattle.mk_move.specs.MoveLists.{TheBasis, vectors_of}
+use Rattle.mk_move.specs.MoveLists.{BasisView, vectors_of}
 use Rattle.mk_inter.proofs.SameLattices.{SameLattice-back, basis_of_others}
 use Rattle.mk_saturate.proofs.Spans.{SameLattice-transitive}
 use Rattle.mk_solve.specs.Books.{Book}
-use Rattle.mk_solve.specs.Solutions.{IsDone, Solves}
+use Rattle.mk_solve.specs.Solutions.{BookIsComplete, Solves}
 use Rattle.mk_solve.specs.Steps.{IsReducedOf, KeepsTailStop, Reduces}
 use Rattle.mk_solve.specs.declared.book.BookStop.TheVariants.{Overflow}
 use Rattle.mk_solve.specs.declared.book.OverflowPlace.TheVariants.{Tail}
@@ -15,20 +15,20 @@ use Rattle.mk_solve.specs.declared.solving.RunStop.{RunStop}
 use Rattle.mk_solve.specs.declared.solving.RunStop.TheVariants.{Memory, Stopped}
 use Rattle.mk_solve.proofs.Reached.{IsReached}
 
-module _ (grid : Grid) (w : List ℤ) (budget : ℕ) (saturated : TheBasis) (book : Book) (h : IsReached (rows_of grid) w budget (vectors_of saturated.moves) saturated book []) where
-  pub reduced_of_rows : (basis : TheBasis) → IsReducedOf saturated basis → IsReducedBasis (length w) (rows_of grid) w (vectors_of basis.moves)
+module _ (grid : Grid) (w : List ℤ) (budget : ℕ) (saturated : BasisView) (book : Book) (h : IsReached (rows_of grid) w budget (vectors_of saturated.moves) saturated book []) where
+  pub reduced_of_rows : (basis : BasisView) → IsReducedOf saturated basis → IsReducedBasis (lattice_of (length w) (rows_of grid) w) (vectors_of basis.moves)
   reduced_of_rows basis r =
       basis_of_others (SameLattice-back h.lattice)
-      (subst (λ (v : List ℤ). IsReducedBasis (length v) (vectors_of saturated.moves) v (vectors_of basis.moves)) h.grading r.reduced)
+      (subst (λ (v : List ℤ). IsReducedBasis (lattice_of (length v) (vectors_of saturated.moves) v) (vectors_of basis.moves)) h.grading r.reduced)
 
   -- the lattice of the rows is that of the reduced basis
-  pub lattice_of_reduced : (basis : TheBasis) → IsReducedOf saturated basis → SameLattice (length w) (rows_of grid) (vectors_of basis.moves)
+  pub lattice_of_reduced : (basis : BasisView) → IsReducedOf saturated basis → SameLattice (length w) (rows_of grid) (vectors_of basis.moves)
   lattice_of_reduced basis r =
       SameLattice-transitive (length w) (rows_of grid) (vectors_of saturated.moves) (vectors_of basis.moves) h.lattice
       (subst (λ (v : List ℤ). SameLattice (length v) (vectors_of saturated.moves) (vectors_of basis.moves)) h.grading r.lattice)
 
   -- a book that keeps the reduced basis beside the phases is done
-  unfoldable pub done_with : (basis : TheBasis) → IsReducedOf saturated basis → (after : Book) → after.phases ≡ book.phases → after.reduced ≡ Some basis → IsDone (rows_of grid) w after
+  unfoldable pub done_with : (basis : BasisView) → IsReducedOf saturated basis → (after : Book) → after.phases ≡ book.phases → after.reduced ≡ Some basis → BookIsComplete (rows_of grid) w after
   done_with basis r after phases made = record {
     rest = vectors_of saturated.moves;
     phases = rw phases h.phases;

@@ -2,16 +2,16 @@
 -- and 12; Hemmecke and Malkin 2009)
 use Rattle.std.specs.Prelude.{◌≡◌, ℕ, ◌≤◌, List, [], ◌∷◌, ◌++◌, take, length, None, Some, Result, Ok, Err, ℤ}
 use Rattle.std.specs.List.{range_with_len, AllZip}
-use Rattle.mk_model.specs.Bases.{IsTheAnswer}
+use Rattle.mk_model.specs.Bases.{IsMinimalMarkovBasis}
 use Rattle.mk_model.specs.CoreStates.{Pair as CorePair, pair_of, OverflowStop}
-use Rattle.mk_model.specs.Lattices.{nonzero_rows}
+use Rattle.mk_model.specs.Lattices.{lattice_of, nonzero_rows}
 use Rattle.mk_model.specs.Legal.{IsLegal, IsEnded}
 use Rattle.mk_model.specs.Orders.{standard}
 use Rattle.mk_model.specs.Overflows.{IsGenuineOverflow, IsTailOverflow}
 use Rattle.mk_model.specs.ReducedBases.{IsReducedBasis}
 use Rattle.mk_model.specs.Saturation.{drop_redundant}
 use Rattle.mk_model.specs.Tables.{Grid, rows_of}
-use Rattle.mk_move.specs.MoveLists.{TheList, TheBasis, IsBasis, vectors_of}
+use Rattle.mk_move.specs.MoveLists.{MoveListView, BasisView, IsBasis, vectors_of}
 use Rattle.mk_move.specs.Priorities.{others}
 use Rattle.mk_ledger.specs.Halts.{stop_of}
 use Rattle.mk_core.specs.Phases.{state_of, IsLeft, IsBasisFull}
@@ -60,13 +60,13 @@ abbrev pub SaturateRows : List (List ℤ) → List ℤ → List Phase → List (
 SaturateRows rows w phases rest left = Saturate w (nonzero_rows rows) (lists_for (length w) (all_columns (length w))) phases rest left
 
 -- Every phase is ended, and the reduced basis of the lattice is made.
-pub record IsDone (rows : List (List ℤ)) (w : List ℤ) (book : Book) : Type 0 where
+pub record BookIsComplete (rows : List (List ℤ)) (w : List ℤ) (book : Book) : Type 0 where
   pub rest : List (List ℤ)
   pub phases : SaturateRows rows w book.phases rest []
-  pub basis : TheBasis
+  pub basis : BasisView
   pub made : book.reduced ≡ Some basis
   pub grading : basis.grading ≡ w
-  pub reduced : IsReducedBasis (length w) rows w (vectors_of basis.moves)
+  pub reduced : IsReducedBasis (lattice_of (length w) rows w) (vectors_of basis.moves)
 
 -- The last phase, of this number, isn't ended, and each before it is.
 pub record StandsAt (rows : List (List ℤ)) (w : List ℤ) (book : Book) (number : ℕ) (phase : Phase) : Type 0 where
@@ -94,7 +94,7 @@ pub record StopsAtTail (rows : List (List ℤ)) (w : List ℤ) (book : Book) (in
 
 -- Every phase is ended, and the reduced basis is made. An entry left the range at a pair of it whose degree is that of a move.
 pub record StopsAtDegree (rows : List (List ℤ)) (w : List ℤ) (book : Book) (stop : OverflowStop) : Type 0 where
-  pub done : IsDone rows w book
+  pub done : BookIsComplete rows w book
   pub degree : IsPairOfDegree w (vectors_of done.basis.moves) stop.pair.first stop.pair.second
   pub genuine : IsGenuineOverflow (vectors_of done.basis.moves) stop
 
@@ -111,14 +111,14 @@ HasStopped rows w budget book (BasisFull number i j) =
     (phase : Phase) × StandsAt rows w book number phase × IsBasisFull 65536 phase (pair_of i j)
 
 -- The list is the one answer that the lattice has, and the book is done with it.
-pub record IsSolved (rows : List (List ℤ)) (w : List ℤ) (book : Book) (list : TheList) : Type 0 where
-  pub done : IsDone rows w book
+pub record IsSolved (rows : List (List ℤ)) (w : List ℤ) (book : Book) (list : MoveListView) : Type 0 where
+  pub done : BookIsComplete rows w book
   pub columns : list.columns ≡ length w
-  pub answer : IsTheAnswer (length w) rows w (vectors_of list.moves)
+  pub answer : IsMinimalMarkovBasis (lattice_of (length w) rows w) (vectors_of list.moves)
 
 -- Solving a table's lattice: at the end the book has no stop; where it stopped the book has the stop, with its cause. No cause
 -- is given for want of memory.
-abbrev pub Solves : Grid → List ℤ → ℕ → Result TheList RunStop → Book → Type 0
+abbrev pub Solves : Grid → List ℤ → ℕ → Result MoveListView RunStop → Book → Type 0
 Solves grid w budget (Ok list) book =
     (book.stop ≡ None) × (book.input ≡ None) × (settled_of book.phases ≤ budget) × IsSolved (rows_of grid) w book list
 Solves grid w budget (Err Stopped) book =

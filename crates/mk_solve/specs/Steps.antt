@@ -6,13 +6,13 @@ use Rattle.mk_model.specs.Lattices.{SameLattice}
 use Rattle.mk_model.specs.Legal.{IsEnded}
 use Rattle.mk_model.specs.Overflows.{IsGenuineOverflow, IsTailOverflow}
 use Rattle.mk_model.specs.ReducedBases.{IsReducedBasis}
-use Rattle.mk_move.specs.MoveLists.{TheList, TheBasis, vectors_of}
+use Rattle.mk_move.specs.MoveLists.{lattice_spanned, MoveListView, BasisView, vectors_of}
 use Rattle.mk_ledger.specs.Halts.{stop_of}
 use Rattle.mk_ledger.specs.declared.halt.OverflowStop.{OverflowStop as KeptStop}
-use Rattle.mk_core.specs.Phases.{ledger_for, state_of, IsPhaseFrom, IsLeft, IsOverBudget, IsBasisFull, Finishes}
+use Rattle.mk_core.specs.Phases.{ledger_for, state_of, IsPhaseFrom, IsLeft, PhaseIsOverBudget, IsBasisFull, Finishes}
 use Rattle.mk_core.specs.declared.phase.Job.{Job}
 use Rattle.mk_core.specs.declared.phase.Phase.{Phase}
-use Rattle.mk_saturate.specs.Saturations.{TheSaturation, IsLeastLeft, IsDropped}
+use Rattle.mk_saturate.specs.Saturations.{SaturationView, IsLeastLeft, IsDropped}
 use Rattle.mk_inter.specs.Tails.{IsReducedList}
 use Rattle.mk_minimise.specs.Minimal.{IsPairOfDegree}
 use Rattle.mk_solve.specs.Books.{Book, settled_of}
@@ -36,20 +36,20 @@ KeepsStop before phase stop Stopped after = after ≡ stopped_at before phase st
 KeepsStop before phase stop Memory after = after ≡ before
 
 -- Why the phase of a number stops, where the phases up to it settled so many pairs.
-abbrev pub IsCause : Job → ℕ → ℕ → Phase → BookStop → Type 0
-IsCause job number settled phase (Overflow (Pair n) stop) =
+abbrev pub IsPhaseStop : Job → ℕ → ℕ → Phase → BookStop → Type 0
+IsPhaseStop job number settled phase (Overflow (Pair n) stop) =
     (n ≡ number) × IsLeft phase (stop_of stop).pair × IsGenuineOverflow (vectors_of phase.basis.moves) (stop_of stop)
-IsCause job number settled phase (Overflow (Tail index) stop) = ⊥
-IsCause job number settled phase (Overflow Degree stop) = ⊥
-IsCause job number settled phase (Budget n) = (n ≡ settled) × IsOverBudget (ledger_for job) phase
-IsCause job number settled phase (BasisFull n i j) = (n ≡ number) × IsBasisFull job.basis_limit phase (pair_of i j)
+IsPhaseStop job number settled phase (Overflow (Tail index) stop) = ⊥
+IsPhaseStop job number settled phase (Overflow Degree stop) = ⊥
+IsPhaseStop job number settled phase (Budget n) = (n ≡ settled) × PhaseIsOverBudget (ledger_for job) phase
+IsPhaseStop job number settled phase (BasisFull n i j) = (n ≡ number) × IsBasisFull job.basis_limit phase (pair_of i j)
 
 -- the job's phase stopped: the book keeps it, and the stop with its cause
 pub record StopsIn (job : Job) (before after : Book) : Type 0 where
   pub phase : Phase
   pub stop : BookStop
   pub from : IsPhaseFrom (ledger_for job) phase
-  pub cause : IsCause job (length before.phases) (settled_of after.phases) phase stop
+  pub cause : IsPhaseStop job (length before.phases) (settled_of after.phases) phase stop
   pub kept : after ≡ stopped_at before phase stop
 
 -- the completed phase of a job, or why it stopped
@@ -59,7 +59,7 @@ Completes job before (Err Memory) after = after ≡ before
 Completes job before (Err Stopped) after = StopsIn job before after
 
 -- the job's phase is completed: the book keeps it, and what it leaves of the moves is taken
-pub record TakesPhase (job : Job) (moves : TheBasis) (before : Book) (taken : TheBasis) (after : Book) : Type 0 where
+pub record TakesPhase (job : Job) (moves : BasisView) (before : Book) (taken : BasisView) (after : Book) : Type 0 where
   pub phase : Phase
   pub from : IsPhaseFrom (ledger_for job) phase
   pub ended : IsEnded (state_of phase job.budget job.basis_limit)
@@ -71,13 +71,13 @@ abbrev pub IsLeastTaken : List Bool → List Bool → Type 0
 IsLeastTaken left after = (column : ℕ) × IsLeastLeft left column × (after ≡ set left column false)
 
 -- a column is saturated by the phase of a job, or the job's phase stopped
-abbrev pub TakesColumn : TheSaturation → Job → Book → Result Unit RunStop → TheSaturation → Book → Type 0
+abbrev pub TakesColumn : SaturationView → Job → Book → Result Unit RunStop → SaturationView → Book → Type 0
 TakesColumn now job before (Ok done) next after = TakesPhase job now.basis before next.basis after × IsLeastTaken now.left next.left
 TakesColumn now job before (Err Memory) next after = after ≡ before
 TakesColumn now job before (Err Stopped) next after = StopsIn job before after
 
 -- the last phase leaves the saturated basis, or it stopped
-abbrev pub TakesLast : TheBasis → Job → Book → Result TheBasis RunStop → Book → Type 0
+abbrev pub TakesLast : BasisView → Job → Book → Result BasisView RunStop → Book → Type 0
 TakesLast moves job before (Ok saturated) after = TakesPhase job moves before saturated after
 TakesLast moves job before (Err Memory) after = after ≡ before
 TakesLast moves job before (Err Stopped) after = StopsIn job before after
@@ -92,39 +92,39 @@ pub record IsTailStop (moves : List (List ℤ)) (index : ℕ) (stop : OverflowSt
   pub genuine : IsTailOverflow moves index place operand stop
 
 -- the reduced basis of what the saturated one spans
-pub record IsReducedOf (saturated : TheBasis) (basis : TheBasis) : Type 0 where
-  pub reduced : IsReducedBasis (length saturated.grading) (vectors_of saturated.moves) saturated.grading (vectors_of basis.moves)
+pub record IsReducedOf (saturated : BasisView) (basis : BasisView) : Type 0 where
+  pub reduced : IsReducedBasis (lattice_spanned saturated) (vectors_of basis.moves)
   pub lattice : SameLattice (length saturated.grading) (vectors_of saturated.moves) (vectors_of basis.moves)
   pub grading : basis.grading ≡ saturated.grading
   pub kept : IsReducedList basis
 
 -- a stop at a tail, which the book keeps
-pub record KeepsTailStop (saturated : TheBasis) (before after : Book) : Type 0 where
+pub record KeepsTailStop (saturated : BasisView) (before after : Book) : Type 0 where
   pub index : ℕ
   pub stop : KeptStop
   pub cause : IsTailStop (vectors_of saturated.moves) index (stop_of stop)
   pub kept : after ≡ record before { stop = Some (Overflow (Tail index) stop) }
 
 -- the reduced basis, or why there is none
-abbrev pub Reduces : TheBasis → Book → Result TheBasis RunStop → Book → Type 0
+abbrev pub Reduces : BasisView → Book → Result BasisView RunStop → Book → Type 0
 Reduces saturated before (Ok basis) after = IsReducedOf saturated basis × (after ≡ before)
 Reduces saturated before (Err Memory) after = after ≡ before
 Reduces saturated before (Err Stopped) after = KeepsTailStop saturated before after
 
 -- the essential moves of what the reduced basis spans
-pub record IsMinimalOf (basis : TheBasis) (list : TheList) : Type 0 where
+pub record IsMinimalOf (basis : BasisView) (list : MoveListView) : Type 0 where
   pub columns : list.columns ≡ length basis.grading
-  pub answer : IsAnswer (length basis.grading) (vectors_of basis.moves) basis.grading (vectors_of list.moves)
+  pub answer : IsAnswer (lattice_spanned basis) (vectors_of list.moves)
 
 -- a stop at a degree of the reduced basis, and this basis, which the book keeps
-pub record KeepsDegreeStop (basis : TheBasis) (before after : Book) : Type 0 where
+pub record KeepsDegreeStop (basis : BasisView) (before after : Book) : Type 0 where
   pub stop : KeptStop
   pub degree : IsPairOfDegree basis.grading (vectors_of basis.moves) stop.i stop.j
   pub genuine : IsGenuineOverflow (vectors_of basis.moves) (stop_of stop)
   pub kept : after ≡ record before { reduced = Some basis; stop = Some (Overflow Degree stop) }
 
 -- the essential moves, or why there are none; the book keeps the reduced basis
-abbrev pub Minimises : TheBasis → Book → Result TheList RunStop → Book → Type 0
+abbrev pub Minimises : BasisView → Book → Result MoveListView RunStop → Book → Type 0
 Minimises basis before (Ok list) after = IsMinimalOf basis list × (after ≡ record before { reduced = Some basis })
 Minimises basis before (Err Memory) after = after ≡ record before { reduced = Some basis }
 Minimises basis before (Err Stopped) after = KeepsDegreeStop basis before after

@@ -49,13 +49,13 @@ pub struct RunBook {
 }
 
 impl Model for RunBook {
-    ghost use Rattle.mk_solve.specs.Books.{Book, IsKept};
+    ghost use Rattle.mk_solve.specs.Books.{Book, IsBookKept};
 
     ghost Value = { Book };
 
     ghost view = { λ b. record { input = b.fault; phases = b.phases.items; reduced = b.reduced; stop = b.stop } };
 
-    ghost invariant = { λ b. IsKept b.settled b.phases.items };
+    ghost invariant = { λ b. IsBookKept b.settled b.phases.items };
 }
 
 impl RunBook {

@@ -6,7 +6,7 @@ use Rattle.std.proofs.lemmas.List.{append-nil, take-append-drop, map-append, len
 use Rattle.std.proofs.lemmas.Grind.{flat_map-append}
 use Rattle.mk_model.specs.Texts.{header_line, move_line}
 use Rattle.mk_move.specs.Moves.{Weighed}
-use Rattle.mk_move.specs.MoveLists.{TheList, vectors_of}
+use Rattle.mk_move.specs.MoveLists.{MoveListView, vectors_of}
 use Rattle.mk_desk.specs.Folders.{Desk}
 use Rattle.mk_desk.specs.Transfers.{PutsAll}
 use Rattle.mk_desk.specs.declared.folder.DeskFault.{DeskFault}
@@ -14,19 +14,19 @@ use Rattle.mk_writer.specs.Writing.{text_of}
 use Rattle.mk_writer.proofs.MoveLines.{one_move_more}
 
 -- the header line of a list
-abbrev pub header_of : TheList → List ℕ
+abbrev pub header_of : MoveListView → List ℕ
 header_of list = header_line (length (vectors_of list.moves)) list.columns
 
 -- the header line and the lines of so many moves
-abbrev pub lines_so_far : TheList → ℕ → List ℕ
+abbrev pub lines_so_far : MoveListView → ℕ → List ℕ
 lines_so_far list place = header_of list ++ flat_map move_line (vectors_of (take place list.moves))
 
 -- the lines of the moves that are left
-abbrev pub lines_left : TheList → ℕ → List ℕ
+abbrev pub lines_left : MoveListView → ℕ → List ℕ
 lines_left list place = flat_map move_line (vectors_of (drop place list.moves))
 
 -- the lines so far and those left are the text
-pub the_text : (list : TheList) (place : ℕ) → lines_so_far list place ++ lines_left list place ≡ text_of list
+pub the_text : (list : MoveListView) (place : ℕ) → lines_so_far list place ++ lines_left list place ≡ text_of list
 the_text list place =
     append_assoc (header_of list) _ _
     ∙ ap (λ (t : List ℕ). header_of list ++ t)
@@ -64,13 +64,13 @@ pub put_first_front : (piece rest text : List ℕ) (fault : DeskFault) (result :
 put_first_front piece rest text fault result err e x z q = put_front [] piece rest text fault result err e x x z (none_put x) q
 
 -- the header line, as it is put
-pub the_header : (list : TheList) (piece bytes : List ℕ) (count columns : ℕ) → piece ≡ bytes → bytes ≡ header_line count columns
+pub the_header : (list : MoveListView) (piece bytes : List ℕ) (count columns : ℕ) → piece ≡ bytes → bytes ≡ header_line count columns
     → count ≡ length list.moves → columns ≡ list.columns → piece ≡ header_of list
 the_header list piece bytes count columns same line many wide =
     same ∙ line ∙ ap (λ n. header_line n columns) (many ∙ sym (length-map list.moves _)) ∙ ap (header_line _) wide
 
 -- a move's line more
-pub line_more : (list : TheList) (place : ℕ) (m : Weighed) (bytes : List ℕ) → bytes ≡ move_line m.entries → place < length list.moves → slice_get list.moves place ≡ Some m
+pub line_more : (list : MoveListView) (place : ℕ) (m : Weighed) (bytes : List ℕ) → bytes ≡ move_line m.entries → place < length list.moves → slice_get list.moves place ≡ Some m
     → lines_so_far list place ++ bytes ≡ lines_so_far list (place + 1)
 line_more list place m bytes e within here =
     ap (λ (t : List ℕ). lines_so_far list place ++ t) e ∙ one_move_more (header_of list) list.moves place m within here

@@ -21,9 +21,9 @@ struct Moves {
 
 impl Model for Moves {
     ghost use Rattle.std.specs.Prelude.{◌≡◌, ◌<◌, ◌^◌, length, All};
-    ghost use Rattle.mk_move.specs.MoveLists.{TheList};
+    ghost use Rattle.mk_move.specs.MoveLists.{MoveListView};
 
-    ghost Value = { TheList };
+    ghost Value = { MoveListView };
 
     ghost view = { λ l. record { columns = l.columns; moves = l.moves.items } };
 

@@ -1,5 +1,5 @@
 use Rattle.std.proofs.Common.{sym, subst}
-use Rattle.mk_ledger.specs.Ledgers.{TheLedger}
+use Rattle.mk_ledger.specs.Ledgers.{LedgerView}
 use Rattle.mk_move.specs.MoveLists.{vectors_of}
 use Rattle.mk_core.specs.GoingOn.{NoneClaims}
 use Rattle.mk_core.specs.Phases.{ledger_for, Finishes}
@@ -14,5 +14,5 @@ finish_alone-requires c =
 
 pub returns : goal.returns
 returns c =
-    subst (λ (ledger : TheLedger). Finishes ledger c.finish_alone.result) (same_ledger (ledger_for c.args.job) c.in_ok-ledger.ledger c.in_ok-ledger.ensures.state c.in_ok-ledger.ensures.basis)
+    subst (λ (ledger : LedgerView). Finishes ledger c.finish_alone.result) (same_ledger (ledger_for c.args.job) c.in_ok-ledger.ledger c.in_ok-ledger.ensures.state c.in_ok-ledger.ensures.basis)
     c.finish_alone.ensures.answer

@@ -3,7 +3,7 @@ use Rattle.std.proofs.lemmas.Result.{on_ok_weaker}
 use Rattle.mk_model.specs.CoreStates.{pair_of, IsPairOf}
 use Rattle.mk_model.specs.CoreStates.Way.{Zero}
 use Rattle.mk_model.specs.CoreStates.Halt.{Overflow}
-use Rattle.mk_move.specs.MoveLists.{TheBasis, vectors_of}
+use Rattle.mk_move.specs.MoveLists.{BasisView, vectors_of}
 use Rattle.mk_reduce.specs.Leads.{leads_of}
 use Rattle.mk_ledger.specs.Halts.{stop_of}
 use Rattle.mk_core.specs.declared.work.WorkFault.TheVariants.{Overflow as OverflowFault}
@@ -14,7 +14,7 @@ use Rattle.mk_core.proofs.completion.settle_pair.Goals as goal
 
 pub work_on-requires-clause-pair : goal.work_on-requires-clause-pair
 work_on-requires-clause-pair c =
-    subst (λ (b : TheBasis). IsPairOf (vectors_of b.moves) (pair_of c.args.i c.args.j)) (sym c.basis.ensures.value)
+    subst (λ (b : BasisView). IsPairOf (vectors_of b.moves) (pair_of c.args.i c.args.j)) (sym c.basis.ensures.value)
     (claimed_pair c.args.ledger.now c.basis.ensures.kept (pair_of c.args.i c.args.j) c.requires.claimed)
 
 pub work_on-requires-clause-leads : goal.work_on-requires-clause-leads
@@ -24,19 +24,19 @@ pub settle_zero-requires : goal.settle_zero-requires
 settle_zero-requires c =
     let pair = pair_of c.args.i c.args.j in
     let nothing = subst (IsRemainder c.basis.result.now pair) c.in-Ok-None.field-0-is c.in-Ok-None.ensures in
-    zero_claim c.args.ledger.now c.basis.ensures.kept pair c.requires.claimed (subst (λ (b : TheBasis). IsRemainder b pair None) c.basis.ensures.value nothing)
+    zero_claim c.args.ledger.now c.basis.ensures.kept pair c.requires.claimed (subst (λ (b : BasisView). IsRemainder b pair None) c.basis.ensures.value nothing)
 
 pub place_remainder-requires-clause-remainder : goal.place_remainder-requires-clause-remainder
 place_remainder-requires-clause-remainder c =
     let pair = pair_of c.args.i c.args.j in
     let some = subst (IsRemainder c.basis.result.now pair) c.in-Ok-Some.field-0-is c.in-Ok-Some.ensures in
-    record { pair = pair; claims = c.requires.claimed; rest = subst (λ (b : TheBasis). IsNormalRest b pair c.in-Ok-Some.remainder) c.basis.ensures.value some }
+    record { pair = pair; claims = c.requires.claimed; rest = subst (λ (b : BasisView). IsNormalRest b pair c.in-Ok-Some.remainder) c.basis.ensures.value some }
 
 pub halt-requires : goal.halt-requires
 halt-requires c =
     let pair = pair_of c.args.i c.args.j in
     let fault = subst (IsWorkFault (vectors_of c.basis.result.now.moves) pair) c.in-Err-Overflow.field-0-is c.in-Err-Overflow.ensures in
-    let (same, genuine) = subst (λ (b : TheBasis). IsWorkFault (vectors_of b.moves) pair (OverflowFault c.in-Err-Overflow.stop)) c.basis.ensures.value fault in
+    let (same, genuine) = subst (λ (b : BasisView). IsWorkFault (vectors_of b.moves) pair (OverflowFault c.in-Err-Overflow.stop)) c.basis.ensures.value fault in
     record {
       worker = workers_within c.args.ledger.now c.basis.ensures.kept;
       no_halt = not_halted c.args.ledger.now c.basis.ensures.kept pair c.requires.claimed;

@@ -1,6 +1,6 @@
 use Rattle.std.proofs.Common.{subst, sym, ap, ◌∙◌}
 use Rattle.mk_reduce.specs.Leads.{leads_of}
-use Rattle.mk_core.specs.GoingOn.{GoesOn}
+use Rattle.mk_core.specs.GoingOn.{ContinuesLedger}
 use Rattle.mk_core.proofs.GoingOn.{GoesOn-here, GoesOn-then, fewer_left}
 use Rattle.mk_core.proofs.completion.settle_pairs.Goals as goal
 
@@ -30,7 +30,7 @@ loop-i-smaller c = fewer_left c.loop-i.ledger c.next_pair.new.ledger c.settle_pa
 
 pub returns-in-Err-clause-goes_on : goal.returns-in-Err-clause-goes_on
 returns-in-Err-clause-goes_on c =
-    subst (GoesOn c.args.ledger.now) (sym c.in-Err.ensures.same) c.loop-i.invariant.goes_on
+    subst (ContinuesLedger c.args.ledger.now) (sym c.in-Err.ensures.same) c.loop-i.invariant.goes_on
 
 pub returns-in-Err-clause-ending : goal.returns-in-Err-clause-ending
 returns-in-Err-clause-ending c = c.in-Err.ensures.ending

@@ -1,10 +1,10 @@
 use Rattle.std.proofs.Common.{◌≡◌, ◌-◌}
 use Rattle.mk_reduce.specs.Leads.{leads_of}
-use Rattle.mk_core.specs.GoingOn.{GoesOn, NoneClaims}
+use Rattle.mk_core.specs.GoingOn.{ContinuesLedger, NoneClaims}
 use Rattle.mk_core.proofs.completion.settle_pairs.Given as goal
 
 abbrev pub invariant-loop-i : goal.invariant-loop-i
-invariant-loop-i l = record { goes_on : GoesOn l.fn.ledger l.ledger; unclaimed : NoneClaims l.ledger.state; leads : l.finder ≡ leads_of l.ledger.basis.moves }
+invariant-loop-i l = record { goes_on : ContinuesLedger l.fn.ledger l.ledger; unclaimed : NoneClaims l.ledger.state; leads : l.finder ≡ leads_of l.ledger.basis.moves }
 
 abbrev pub decreases-loop-i : goal.decreases-loop-i
 decreases-loop-i l = l.ledger.state.budget - l.ledger.state.claims_made

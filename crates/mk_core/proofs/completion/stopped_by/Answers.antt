@@ -2,7 +2,7 @@ use Rattle.std.proofs.Common.{Some, ap, ◌∙◌, subst}
 use Rattle.mk_ledger.specs.FirstHalts.{IsFirstHalt}
 use Rattle.mk_ledger.specs.declared.halt.Halt.TheVariants.{Overflow, Full}
 use Rattle.mk_core.specs.declared.phase.Phase.{Phase}
-use Rattle.mk_core.specs.GoingOn.{IsPhaseOf}
+use Rattle.mk_core.specs.GoingOn.{IsPhaseOfLedger}
 use Rattle.mk_core.proofs.Finishing.{finishes_overflow, finishes_full, overflow_handed_on, full_handed_on}
 use Rattle.mk_core.proofs.completion.stopped_by.Goals as goal
 use Rattle.mk_core.proofs.completion.stopped_by.Goals.{After-into_parts-start_len, In-Some-Overflow, In-Some-Full}
@@ -15,7 +15,7 @@ phase c = record {
   journal = c.into_parts-start_len.result.journal;
 }
 
-phase_is : (c : After-into_parts-start_len) → IsPhaseOf c.args.ledger (phase c)
+phase_is : (c : After-into_parts-start_len) → IsPhaseOfLedger c.args.ledger (phase c)
 phase_is c =
     let e = c.into_parts-start_len.ensures in
     record { start_length = e.start_len; basis = e.basis; journal = e.journal; kept = e.kept }

@@ -3,7 +3,7 @@ use Rattle.std.specs.Option.{option_copied}
 use Rattle.std.proofs.lemmas.Result.{err_from_is_err_and}
 use Rattle.mk_model.specs.ChosenGradings.{IsSmallEntry}
 use Rattle.mk_grading.proofs.RowsRead.{only_row}
-use Rattle.mk_grading.proofs.SourcesTried.{IsGradingOf, IsSourced}
+use Rattle.mk_grading.proofs.SourcesTried.{IsGradingMade, IsSourced}
 use Rattle.mk_grading.proofs.Answered.{answers_cause, without_grade, with_grade}
 use Rattle.mk_grading.proofs.choice.choose.Goals as goal
 
@@ -36,11 +36,11 @@ returns c =
     let fits = c.in_ok-check_grade.ensures.fits in
     let small : All IsSmallEntry given.entries = rw c.in-Some.is at c.requires.grade in
     let row = only_row given c.row.result.now c.row.ensures.kept.filled fits.shape.rows c.row.ensures.value in
-    let grading : IsGradingOf c.row.result.now c.grading_of.result = record {
+    let grading : IsGradingMade c.row.result.now c.grading_of.result = record {
       value = c.grading_of.ensures.value;
       in_range = c.grading_of.ensures.weights;
       refused = c.grading_of.ensures.refused;
     } in
     rw c.in-Some.is
     (with_grade lat (option_copied c.args.mat) c.in_ok-check_matrix.ensures.fits given small fits c.in_ok-check_grade.ensures.graded c.grading_of.result
-    (subst (λ (w : List ℤ). IsGradingOf w c.grading_of.result) row grading))
+    (subst (λ (w : List ℤ). IsGradingMade w c.grading_of.result) row grading))

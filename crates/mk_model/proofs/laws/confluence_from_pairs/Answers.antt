@@ -2,4 +2,4 @@ use Rattle.mk_model.proofs.Confluence.{confluence}
 use Rattle.mk_model.proofs.laws.confluence_from_pairs.Goals as goal
 
 pub returns : goal.returns
-returns c n rows w priority moves o pairs x y walk = confluence o pairs x y walk
+returns c lattice priority moves o pairs x y walk = confluence o pairs x y walk

@@ -3,6 +3,6 @@ use Rattle.mk_model.proofs.laws.ended_is_joined.Goals as goal
 
 pub returns : goal.returns
 returns c = record {
-  oriented = λ n rows w priority state legal o. (legal_sound n rows w priority state legal o).oriented;
-  joined = λ n rows w priority state legal o ended. ended_joined n rows w priority state legal o ended;
+  oriented = λ lattice priority state legal o. (legal_sound lattice.columns lattice.rows lattice.grading priority state legal o).oriented;
+  joined = λ lattice priority state legal o ended. ended_joined lattice.columns lattice.rows lattice.grading priority state legal o ended;
 }

@@ -2,4 +2,4 @@ use Rattle.mk_model.proofs.StarLaws.{essential_is_star, star_is_essential}
 use Rattle.mk_model.proofs.laws.essential_moves_are_stars.Goals as goal
 
 pub returns : goal.returns
-returns c = λ n rows w m g. (essential_is_star g, star_is_essential g)
+returns c = λ lattice m g. (essential_is_star g, star_is_essential g)

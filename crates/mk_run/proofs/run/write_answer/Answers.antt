@@ -1,5 +1,5 @@
 use Rattle.std.proofs.Common.{◌≡◌, List, [], ℕ, ◌++◌, ◌∙◌}
-use Rattle.mk_move.specs.MoveLists.{TheList}
+use Rattle.mk_move.specs.MoveLists.{MoveListView}
 use Rattle.mk_desk.specs.Folders.{Desk, WhereTold}
 use Rattle.mk_desk.proofs.Telling.{where_told_then}
 use Rattle.mk_writer.specs.Writing.{text_of}
@@ -14,7 +14,7 @@ named : (g : Over) (c : After-as_str g) → c.as_str.result.now ≡ mar_name c.a
 named g c = c.as_str.ensures.value ∙ c.in_ok-name.ensures
 
 -- the file was begun and its text put whole
-abbrev IsMade : List ℕ → TheList → Desk → Desk → Type 0
+abbrev IsMade : List ℕ → MoveListView → Desk → Desk → Type 0
 IsMade name list x z = (y : Desk) × (y ≡ record x { made_name = name; made = [] }) × (z ≡ record y { made = y.made ++ text_of list })
 
 made : (g : Over) (c : In_ok-write_moves g) → WhereTold (g.F.Folder.told c.args.folder.now) (g.F.Folder.told c.write_moves.new.folder) (IsMade c.as_str.result.now c.args.list.now)

@@ -2,7 +2,7 @@ use Rattle.std.proofs.Common.{◌+◌, ◌≤◌, length, Ok, ap, ◌∙◌, sym
 use Rattle.std.proofs.lemmas.List.{take_all}
 use Rattle.mk_model.specs.Tables.{rows_of}
 use Rattle.mk_move.specs.Moves.{ReadsRow}
-use Rattle.mk_move.specs.MoveLists.{TheBasis}
+use Rattle.mk_move.specs.MoveLists.{BasisView}
 use Rattle.mk_saturate.specs.Starts.{Starts}
 use Rattle.mk_saturate.proofs.RowsTurned.{length-cut, row_taken, length-with_move, puts_on}
 use Rattle.mk_saturate.proofs.start.start_basis.Goals as goal
@@ -23,7 +23,7 @@ loop-r-preserved c =
     (subst (λ (w : List ℤ). ReadsRow row w c.priority.result.now (Ok c.in_ok-found.found)) (c.grading.ensures ∙ c.loop-r.invariant.0.0.grading) c.in_ok-found.ensures) in
     let put = c.in_ok-put.ensures in (
       row_taken rows c.loop-r.r row c.row.ensures.value c.args.grading c.args.priority c.loop-r.basis c.loop-r.invariant.0 c.in_ok-found.found c.put.new.basis read put,
-      subst (λ (b : TheBasis). length b.moves ≤ c.loop-r.r + 1) (sym put) (length-with_move c.loop-r.basis.moves c.in_ok-found.found c.loop-r.r c.loop-r.invariant.1),
+      subst (λ (b : BasisView). length b.moves ≤ c.loop-r.r + 1) (sym put) (length-with_move c.loop-r.basis.moves c.in_ok-found.found c.loop-r.r c.loop-r.invariant.1),
     )
 
 pub returns-clause-basis : goal.returns-clause-basis

@@ -1,7 +1,7 @@
 use Rattle.std.proofs.Common.{◌-◌, ◌∙◌, length, sym, refl, subst, Some, Option, Result, []}
 use Rattle.mk_model.specs.Orders.{standard}
 use Rattle.mk_model.specs.Tables.{rows_of}
-use Rattle.mk_move.specs.MoveLists.{TheList, vectors_of}
+use Rattle.mk_move.specs.MoveLists.{MoveListView, vectors_of}
 use Rattle.mk_core.specs.declared.phase.Job.{Job}
 use Rattle.mk_saturate.specs.Saturations.{NoneLeft, IsJob, IsNextJob}
 use Rattle.mk_solve.specs.Books.{Book, settled_of}
@@ -38,7 +38,7 @@ last_job c =
 
 pub returns-in_err-saturation : goal.returns-in_err-saturation
 returns-in_err-saturation c =
-    subst (λ (result : Result TheList RunStop). Solves c.args.lat.now c.args.grading.now c.args.budget result c.args.book.now) (sym (the_error c.from_residual.result Memory c.from_residual.ensures.1))
+    subst (λ (result : Result MoveListView RunStop). Solves c.args.lat.now c.args.grading.now c.args.budget result c.args.book.now) (sym (the_error c.from_residual.result Memory c.from_residual.ensures.1))
     (nothing_kept c.args.lat.now c.args.grading.now c.args.budget c.args.book.now c.requires.book)
 
 pub loop-saturation-init : goal.loop-saturation-init
@@ -60,7 +60,7 @@ loop-saturation-preserved c =
 pub returns-in_err-saturate_column : goal.returns-in_err-saturate_column
 returns-in_err-saturate_column c =
     let fault = c.in_err-saturate_column.field-0.0 in
-    subst (λ (result : Result TheList RunStop). Solves c.args.lat.now c.args.grading.now c.args.budget result c.saturate_column.new.book)
+    subst (λ (result : Result MoveListView RunStop). Solves c.args.lat.now c.args.grading.now c.args.budget result c.saturate_column.new.book)
     (sym (the_error c.from_residual-in_err-saturate_column.result fault c.from_residual-in_err-saturate_column.ensures.1))
     (column_refused (rows_of c.args.lat.now) c.args.grading.now c.args.budget c.loop-saturation.saturation c.loop-saturation.book c.loop-saturation.invariant c.in-Some.job
     (next_job (goal.at.returns-in_err-saturate_column c).In-Some) c.args.lat.now refl c.saturate_column.new.saturation c.saturate_column.new.book fault c.in_err-saturate_column.ensures)
@@ -69,7 +69,7 @@ pub returns-in_err-saturated : goal.returns-in_err-saturated
 returns-in_err-saturated c =
     let fault = c.in_err-saturated.field-0.0 in
     let at = goal.at.returns-in_err-saturated c in
-    subst (λ (result : Result TheList RunStop). Solves c.args.lat.now c.args.grading.now c.args.budget result c.finish.new.book)
+    subst (λ (result : Result MoveListView RunStop). Solves c.args.lat.now c.args.grading.now c.args.budget result c.finish.new.book)
     (sym (the_error c.from_residual-in_err-saturated.result fault c.from_residual-in_err-saturated.ensures.1))
     (last_refused (rows_of c.args.lat.now) c.args.grading.now c.args.budget c.loop-saturation.saturation c.loop-saturation.book c.loop-saturation.invariant (none_left at.In_default)
     c.in_ok-job-2.job (last_job at.In_ok-job-2) c.args.lat.now refl c.finish.new.book fault c.in_err-saturated.ensures)
@@ -86,7 +86,7 @@ pub returns-in_err-reduced : goal.returns-in_err-reduced
 returns-in_err-reduced c =
     let fault = c.in_err-reduced.field-0.0 in
     let at = goal.at.returns-in_err-reduced c in
-    subst (λ (result : Result TheList RunStop). Solves c.args.lat.now c.args.grading.now c.args.budget result c.reduce.new.book)
+    subst (λ (result : Result MoveListView RunStop). Solves c.args.lat.now c.args.grading.now c.args.budget result c.reduce.new.book)
     (sym (the_error c.from_residual-in_err-reduced.result fault c.from_residual-in_err-reduced.ensures.1))
     (reduction_refused c.args.lat.now c.args.grading.now c.args.budget c.in_ok-saturated.saturated c.finish.new.book (reached_all at.In_ok-saturated (none_left at.In_default) (last_job at.In_ok-job-2))
     fault c.reduce.new.book c.in_err-reduced.ensures)

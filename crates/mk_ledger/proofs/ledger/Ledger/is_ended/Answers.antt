@@ -5,7 +5,7 @@ use Rattle.mk_move.specs.Moves.{Weighed}
 use Rattle.mk_model.specs.Legal.{IsEnded}
 use Rattle.mk_ledger.specs.PairFlags.{pairs_of}
 use Rattle.mk_ledger.specs.HeldClaims.{NoneHeld}
-use Rattle.mk_ledger.specs.Ledgers.{TheLedger}
+use Rattle.mk_ledger.specs.Ledgers.{LedgerView}
 use Rattle.mk_ledger.specs.LedgerFields.{ledger_of}
 use Rattle.mk_ledger.proofs.InOrder.{all_taken_by_count, ended, not_ended}
 use Rattle.mk_ledger.proofs.HeldClaims.{none_of_all}
@@ -17,7 +17,7 @@ returns-then-is_within c =
     let within : c.self.inside.next < pairs_of c.len.result = search rules in
     let sizes : length state.basis ≡ c.len.result = length-map c.self.inside.basis.moves (λ (m : Weighed). m.entries) ∙ sym c.len.ensures.value in
     let left : state.claims_made < pairs_of (length state.basis) = omega (arith, within, ap pairs_of sizes) in
-    (λ e. absurd (false≢true e), λ end. absurd (not_ended c.self.invariant.in_order left (subst (λ (l : TheLedger). IsEnded l.state) (sym c.self.view_is) end)))
+    (λ e. absurd (false≢true e), λ end. absurd (not_ended c.self.invariant.in_order left (subst (λ (l : LedgerView). IsEnded l.state) (sym c.self.view_is) end)))
 
 pub returns : goal.returns
 returns c =
@@ -29,7 +29,7 @@ returns c =
     let none : state.claims_given_up ≡ 0 = omega (arith, c.if-self-gt0.false) in
     let tells : IsTrue c.none_held.result ↔ NoneHeld state.claims (length state.claims) =
     subst (λ claims. IsTrue c.none_held.result ↔ NoneHeld claims (length claims)) c.deref.ensures.value c.none_held.ensures in
-    subst (λ (l : TheLedger). IsTrue c.none_held.result ↔ IsEnded l.state) c.self.view_is (
+    subst (λ (l : LedgerView). IsTrue c.none_held.result ↔ IsEnded l.state) c.self.view_is (
       λ e. ended c.self.invariant.in_order (all_taken_by_count c.self.invariant.in_order none) all (none_of_all state.claims (tells.0 e)),
       λ end. tells.1 (λ worker _. end.none_claimed worker),
     )

@@ -27,6 +27,7 @@ pub mod ReducedLaws
 pub mod MoveOrder
 pub mod TheAnswer
 pub mod Components
+pub mod FiniteFibres
 pub mod Journals
 pub mod LegalEvents
 pub mod EndedStates

@@ -1,17 +1,17 @@
 //! The laws of the definitions. Each is the contract of a function that takes nothing and gives nothing.
 
-ghost use Rattle.std.specs.Prelude.{◌≡◌, ◌⊎◌, ℕ, ℤ, List, [], ◌∷◌, ◌++◌, length, ◌≤◌, Bool, IsTrue, All, Contains, pos, ◌≤ℤ◌, ◌↔◌};
+ghost use Rattle.std.specs.Prelude.{◌≡◌, ◌⊎◌, ℕ, ℤ, List, [], ◌∷◌, ◌++◌, length, ◌≤◌, ◌<◌, Bool, false, IsTrue, All, Contains, pos, ◌≤ℤ◌, ◌↔◌};
 ghost use Rattle.mk_model.specs.Tables.{Grid, Limits, ReadsTable};
 ghost use Rattle.mk_model.specs.TableFaults.{Fault, HasFault};
-ghost use Rattle.mk_model.specs.Vectors.{negate, entry, zeros, add, subtract, negative_part, IsPoint};
+ghost use Rattle.mk_model.specs.Vectors.{negate, entry, zeros, add, subtract, negative_part, weight, IsPoint};
 ghost use Rattle.mk_model.specs.Lattices.{Lattice, HasGrading, nonzero_rows, InLattice};
 ghost use Rattle.mk_model.specs.Walks.{Joined, Members};
-ghost use Rattle.mk_model.specs.Orders.{standard, IsOriented, lead};
-ghost use Rattle.mk_model.specs.Bases.{IsMinimalMarkovBasis, IsAnswer, ListsEssentialMoves, IsEssential, IsMarkov, IsMinimal};
-ghost use Rattle.mk_model.specs.Reductions.{lcm, Divides, Meet, Reduct};
+ghost use Rattle.mk_model.specs.Orders.{IsBelow, standard, IsOriented, lead, ComesBefore};
+ghost use Rattle.mk_model.specs.Bases.{IsMinimalMarkovBasis, IsAnswer, ListsEssentialMoves, IsEssential, MovesBefore, IsMarkov, IsMinimal};
+ghost use Rattle.mk_model.specs.Reductions.{lcm, Divides, Meet, Reduct, IsIrreducible};
 ghost use Rattle.mk_model.specs.Pairs.{AreOrientedMoves, JoinedBelow, EveryPairJoined, AreDisjoint};
-ghost use Rattle.mk_model.specs.Saturation.{IsSupported, without_column, ConnectedUpTo, drop_redundant};
-ghost use Rattle.mk_model.specs.ReducedBases.{IsLeast, IsReducedBasis, IsStarMove};
+ghost use Rattle.mk_model.specs.Saturation.{IsSupported, every_column, without_column, ConnectedUpTo, IsSignedRow, drop_redundant, NoneRedundant};
+ghost use Rattle.mk_model.specs.ReducedBases.{IsLeast, IsReducedBasis, LighterMoves, IsStarMove};
 ghost use Rattle.mk_model.specs.CoreStates.{Settle, CoreState, start_of, new_state, phase_state};
 ghost use Rattle.mk_model.specs.Events.{Event, Happens, HappenInTurn};
 ghost use Rattle.mk_model.specs.Legal.{IsNext, Replays, IsLegal, IsEnded};
@@ -35,6 +35,66 @@ pub fn join_translate()
         Joined n (Members moves) x y → IsPoint n t → Joined n (Members moves) (add x t) (add y t) }
     ensures by_test { (n : ℕ) (test : List ℤ → Bool) (x y t : List ℤ) →
         Joined n (λ m. IsTrue (test m)) x y → IsPoint n t → Joined n (λ m. IsTrue (test m)) (add x t) (add y t) }
+    ensures by_earlier { (lattice : Lattice) (m x y t : List ℤ) → Joined lattice.columns (MovesBefore lattice m) x y →
+        IsPoint lattice.columns t → Joined lattice.columns (MovesBefore lattice m) (add x t) (add y t) }
+    ensures by_lighter { (lattice : Lattice) (bound : ℤ) (x y t : List ℤ) → Joined lattice.columns (LighterMoves lattice bound) x y →
+        IsPoint lattice.columns t → Joined lattice.columns (LighterMoves lattice bound) (add x t) (add y t) }
+{}
+
+/// Along a priority list "below" is a strict order of vectors. Of two vectors of n columns one is below the other or they are
+/// equal, along each list that has all columns, as the standard list.
+pub fn vectors_are_ordered()
+    ensures irreflexive { (priority : List ℕ) (x : List ℤ) → ¬ (IsBelow priority x x) }
+    ensures asymmetric { (priority : List ℕ) (x y : List ℤ) → IsBelow priority x y → ¬ (IsBelow priority y x) }
+    ensures transitive { (priority : List ℕ) (x y z : List ℤ) → IsBelow priority x y → IsBelow priority y z → IsBelow priority x z }
+    ensures total { (n : ℕ) (priority : List ℕ) (x y : List ℤ) → length x ≡ n → length y ≡ n →
+        ((c : ℕ) → c < n → Contains priority c) → (IsBelow priority x y ⊎ IsBelow priority y x) ⊎ (x ≡ y) }
+    ensures all_standard { (n c : ℕ) → c < n → Contains (standard n) c }
+{}
+
+/// The order of moves is strict, and total on vectors of n columns, whatever the grading.
+pub fn moves_are_ordered()
+    ensures irreflexive { (n : ℕ) (w m : List ℤ) → ¬ (ComesBefore n w m m) }
+    ensures asymmetric { (n : ℕ) (w m other : List ℤ) → ComesBefore n w m other → ¬ (ComesBefore n w other m) }
+    ensures transitive { (n : ℕ) (w m middle last : List ℤ) → ComesBefore n w m middle → ComesBefore n w middle last → ComesBefore n w m last }
+    ensures total { (n : ℕ) (w m other : List ℤ) → length m ≡ n → length other ≡ n →
+        (ComesBefore n w m other ⊎ ComesBefore n w other m) ⊎ (m ≡ other) }
+{}
+
+/// Every fibre of a lattice with a grading is finite: each entry of its vectors is from 0 to their weight, and a list has them all.
+pub fn every_fibre_is_finite()
+    ensures bounded { (lattice : Lattice) (x y : List ℤ) (c : ℕ) → HasGrading lattice →
+        IsPoint lattice.columns x → IsPoint lattice.columns y → InLattice lattice.columns lattice.rows (subtract y x) →
+        (pos 0 ≤ℤ entry y c) × (entry y c ≤ℤ weight lattice.grading x) }
+    ensures listed { (lattice : Lattice) (x : List ℤ) → HasGrading lattice → IsPoint lattice.columns x →
+        (vectors : List (List ℤ)) × ((y : List ℤ) → IsPoint lattice.columns y →
+        InLattice lattice.columns lattice.rows (subtract y x) → Contains vectors y) }
+{}
+
+/// For moves of the lattice, connected up to no column is Markov.
+pub fn connected_up_to_none_is_markov()
+    ensures { (n : ℕ) (rows : List (List ℤ)) (columns : ℕ → Bool) (moves : List (List ℤ)) →
+        ((c : ℕ) → c < n → columns c ≡ false) → All (InLattice n rows) moves → (ConnectedUpTo n rows columns moves ↔ IsMarkov n rows moves) }
+{}
+
+/// Moves are connected up to all columns where each row is zero, or a move, or the negative of one.
+pub fn connected_by_rows()
+    ensures { (lattice : Lattice) (moves : List (List ℤ)) → HasGrading lattice →
+        All (IsSignedRow moves) lattice.rows → ConnectedUpTo lattice.columns lattice.rows every_column moves }
+{}
+
+/// Where a Markov basis has every pair joined below, a vector that no lead divides is the least of its fibre.
+pub fn irreducible_is_least()
+    ensures { (lattice : Lattice) (priority : List ℕ) (moves : List (List ℤ)) (x y : List ℤ) →
+        AreOrientedMoves lattice priority moves → IsMarkov lattice.columns lattice.rows moves →
+        EveryPairJoined lattice.columns priority moves → IsIrreducible moves x →
+        IsPoint lattice.columns x → IsPoint lattice.columns y → InLattice lattice.columns lattice.rows (subtract y x) →
+        (x ≡ y) ⊎ IsBelow priority x y }
+{}
+
+/// Of the moves that are left when the redundant ones are dropped, no lead divides another.
+pub fn drop_redundant_apart()
+    ensures { (moves : List (List ℤ)) → NoneRedundant (drop_redundant moves) }
 {}
 
 /// Where every pair of the moves is joined below, any two joined vectors step down to one common vector.

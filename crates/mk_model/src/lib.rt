@@ -15,11 +15,12 @@ pub use examples::{
 };
 pub use laws::{
     answer_has_the_essential_moves, answer_is_unique, answer_of_one_row, answer_without_rows,
-    confluence_from_pairs, conn_drop, conn_free, each_text_is_a_table_or_has_a_fault,
-    ended_is_joined, essential_is_markov, essential_is_minimal, essential_moves_are_stars,
-    events_keep_legal, join_chain, join_translate, phase_is_legal, reached_is_legal,
-    reduced_basis_divides, reduced_basis_has_the_essential_moves, reduced_basis_is_markov,
-    reduced_basis_is_unique, replay_goes_on,
+    confluence_from_pairs, conn_drop, conn_free, connected_by_rows, connected_up_to_none_is_markov,
+    drop_redundant_apart, each_text_is_a_table_or_has_a_fault, ended_is_joined,
+    essential_is_markov, essential_is_minimal, essential_moves_are_stars, events_keep_legal,
+    every_fibre_is_finite, irreducible_is_least, join_chain, join_translate, moves_are_ordered,
+    phase_is_legal, reached_is_legal, reduced_basis_divides, reduced_basis_has_the_essential_moves,
+    reduced_basis_is_markov, reduced_basis_is_unique, replay_goes_on, vectors_are_ordered,
 };
 pub use plain::{divides, is_below};
 use std::alloc::{AllocError, AllocFailed};

@@ -1,0 +1,12 @@
+use Rattle.std.proofs.Common.{refl}
+use Rattle.mk_model.proofs.OrderLaws.{IsBelow-irreflexive, IsBelow-asymmetric, IsBelow-transitive, IsBelow-total_along, standard_has}
+use Rattle.mk_model.proofs.laws.vectors_are_ordered.Goals as goal
+
+pub returns : goal.returns
+returns c = record {
+  irreflexive = λ priority x b. IsBelow-irreflexive priority x x (λ c. refl) b;
+  asymmetric = λ priority x y b d. IsBelow-asymmetric priority x y b d;
+  transitive = λ priority x y z b d. IsBelow-transitive priority x y z b d;
+  total = λ n priority x y l k f. IsBelow-total_along n priority x y l k f;
+  all_standard = λ n c l. standard_has n c l;
+}

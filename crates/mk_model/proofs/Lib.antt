@@ -28,6 +28,11 @@ pub mod MoveOrder
 pub mod TheAnswer
 pub mod Components
 pub mod FiniteFibres
+pub mod UndividedBases
+pub mod SmallVectors
+pub mod LikeColumns
+pub mod TwistedCubic
+pub mod SmallCurve
 pub mod Journals
 pub mod LegalEvents
 pub mod EndedStates

@@ -9,10 +9,11 @@ use Rattle.mk_model.specs.Walks.{Joined, Members}
 use Rattle.mk_model.specs.Walks.Walk.{stay, step}
 use Rattle.mk_model.specs.Bases.{IsMove, IsEssential, IsAnswer}
 use Rattle.mk_model.specs.ReducedBases.{IsLeast, IsReducedBasis, LighterMoves, IsLeastOfComponent}
+use Rattle.mk_model.proofs.VectorAlgebra.{parts}
 use Rattle.mk_model.proofs.WalkLaws.{walk_from, walk_weaker, walk_stays}
 use Rattle.mk_model.proofs.OrderLaws.{IsBelow-not_same}
 use Rattle.mk_model.proofs.MoveLaws.{IsMove-columns, IsMove-lead, IsMove-tail, IsMove-ends, IsMove-same_weight}
-use Rattle.mk_model.proofs.Fibres.{AreEnds, ends_of_step, step_weight, walk_replace, step_by_parts}
+use Rattle.mk_model.proofs.Fibres.{AreEnds, difference_step, ends_of_step, step_weight, walk_replace, step_by_parts}
 use Rattle.mk_model.proofs.NormalForms.{All-from_contains}
 use Rattle.mk_model.proofs.StarLaws.{essential_from_ends, joined_from_lighter}
 use Rattle.mk_model.proofs.ReducedLaws.{reduced_ends, member_reduced, member_move, reduced_joins, answer_from_reduced}
@@ -22,6 +23,10 @@ abbrev pub LighterMembers : List ℤ → List (List ℤ) → ℤ → List ℤ �
 LighterMembers w moves bound m = Contains moves m × (weight w (lead m) <ℤ bound)
 
 module _ {n : ℕ} {rows : List (List ℤ)} {w : List ℤ} (g : HasGrading (lattice_of n rows w)) where
+  -- a move joins its own ends
+  pub ends_joined : {set : List ℤ → Type 0} {m : List ℤ} → IsMove n rows m → set m → Joined n set (lead m) (tail m)
+  ends_joined {set} {m} a s = difference_step g (lead m) (tail m) (IsMove-lead g a) (IsMove-tail g a) (subst set (sym (parts m)) s)
+
   -- a walk through points lighter than a bound is by moves that are
   pub walk_is_lighter : (moves : List (List ℤ)) → ((m : List ℤ) → Contains moves m → IsMove n rows m) → (bound : ℤ) (x y : List ℤ) → weight w x <ℤ bound →
       Joined n (Members moves) x y → Joined n (LighterMembers w moves bound) x y

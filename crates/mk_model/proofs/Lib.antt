@@ -41,6 +41,12 @@ pub mod OverflowExamples
 pub mod EventExamples
 pub mod OrderTests
 pub mod VectorExamples
+pub mod GradingExamples
+pub mod ReducedBasisExamples
+pub mod TokenExamples
+pub mod PairExamples
+pub mod ChainExamples
+pub mod HaltExamples
 pub mod WalkExamples
 pub mod AnswerExamples
 pub mod TableExamples

@@ -1,8 +1,8 @@
 -- The answer of three like columns.
-use Rattle.std.proofs.Common.{◌≡◌, ℕ, List, [], ◌∷◌, length, ℤ, pos, ◌<ℤ◌, All, Contains, arith, refl, subst}
+use Rattle.std.proofs.Common.{◌≡◌, List, [], ◌∷◌, length, ℤ, pos, ◌<ℤ◌, All, Contains, arith, refl}
 use Rattle.std.proofs.lemmas.Int.{ints}
 use Rattle.std.proofs.lemmas.List.Elements.{All-contains}
-use Rattle.mk_model.specs.Vectors.{entry, combine, add, subtract, negate, scale, positive_part, negative_part, weight, IsPoint}
+use Rattle.mk_model.specs.Vectors.{combine, add, subtract, negate, scale, positive_part, negative_part, weight, IsPoint}
 use Rattle.mk_model.specs.Lattices.{combination, InLattice, HasGrading, ones}
 use Rattle.mk_model.specs.Orders.{standard, lead}
 use Rattle.mk_model.specs.Bases.{IsMove, IsMinimalMarkovBasis}

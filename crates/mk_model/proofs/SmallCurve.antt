@@ -4,7 +4,7 @@ use Rattle.std.proofs.lemmas.Int.{ints}
 use Rattle.std.proofs.lemmas.List.Elements.{All-contains}
 use Rattle.mk_model.specs.Vectors.{entry, combine, add, subtract, negate, scale, positive_part, negative_part, weight, IsPoint}
 use Rattle.mk_model.specs.Lattices.{combination, InLattice, HasGrading}
-use Rattle.mk_model.specs.Walks.{IsStep, Joined}
+use Rattle.mk_model.specs.Walks.{Joined}
 use Rattle.mk_model.specs.Walks.Walk.{stay, step}
 use Rattle.mk_model.specs.Orders.{IsBelow, standard, lead, ComesBefore}
 use Rattle.mk_model.specs.Bases.{IsMove, IsEssential, IsMinimalMarkovBasis}
@@ -18,12 +18,12 @@ use Rattle.mk_model.proofs.MoveLaws.{IsMove-lead}
 use Rattle.mk_model.proofs.Lists.{Contains-none, Contains-cases}
 use Rattle.mk_model.proofs.WalkLaws.{walk_to}
 use Rattle.mk_model.proofs.Fibres.{same_fibre_of_walk, same_fibre_weight}
-use Rattle.mk_model.proofs.OrderTests.{is_below, Decides-is_below, ascends-true}
+use Rattle.mk_model.proofs.OrderTests.{Decides-is_below, ascends-true}
 use Rattle.mk_model.proofs.SmallVectors.{three_entries, same_three, Divides-nil, Divides-cons, less, less_either, oriented_by_test, two_factors, all_two, all_three}
 use Rattle.mk_model.proofs.UndividedBases.{reduced_from_undivided}
 use Rattle.mk_model.proofs.Components.{LighterMembers, lighter_by_members, lightest_is_least, answer_from_components}
 use Rattle.mk_model.proofs.StarLaws.{joined_from_lighter}
-use Rattle.mk_model.proofs.ReducedLaws.{member_move, member_reduced}
+use Rattle.mk_model.proofs.ReducedLaws.{member_reduced}
 use Rattle.mk_model.proofs.TheAnswer.{the_answer}
 
 -- the three moves in their order

@@ -1,8 +1,8 @@
 -- The answer of the twisted cubic.
-use Rattle.std.proofs.Common.{◌≡◌, ◌⊎◌, inl, inr, ℕ, List, [], ◌∷◌, length, ℤ, pos, negsuc, ◌+ℤ◌, ◌-ℤ◌, ◌*ℤ◌, ◌≤ℤ◌, ◌<ℤ◌, All, Contains, arith, refl, subst, ⊎_elim}
+use Rattle.std.proofs.Common.{◌≡◌, ◌⊎◌, inl, inr, List, [], ◌∷◌, length, ℤ, pos, negsuc, ◌+ℤ◌, ◌-ℤ◌, ◌*ℤ◌, ◌≤ℤ◌, ◌<ℤ◌, All, Contains, arith, refl}
 use Rattle.std.proofs.lemmas.Int.{ints}
 use Rattle.std.proofs.lemmas.List.Elements.{All-contains}
-use Rattle.mk_model.specs.Vectors.{entry, combine, add, subtract, negate, scale, positive_part, negative_part, weight, IsPoint}
+use Rattle.mk_model.specs.Vectors.{combine, add, subtract, negate, scale, positive_part, negative_part, weight, IsPoint}
 use Rattle.mk_model.specs.Lattices.{combination, InLattice, HasGrading, ones}
 use Rattle.mk_model.specs.Orders.{standard, lead}
 use Rattle.mk_model.specs.Bases.{IsMove, IsMinimalMarkovBasis}
@@ -83,9 +83,9 @@ pub cubic_basis : IsReducedBasis cubic_lattice cubic_moves
 unfolding divides subtract combine positive_part negative_part negate weight
 cubic_basis = reduced_from_undivided cubic_graded cubic_moves cubic_member one refl refl (ascends-true 4 (ones 4) cubic_moves refl)
 
-weights : (m : List ℤ) → Contains cubic_moves m → weight (ones 4) (lead m) ≡ pos 2
+pub cubic_weights : (m : List ℤ) → Contains cubic_moves m → weight (ones 4) (lead m) ≡ pos 2
 unfolding weight positive_part
-weights m h = All-contains (λ m. weight (ones 4) (lead m) ≡ pos 2) cubic_moves m (all_three (λ m. weight (ones 4) (lead m) ≡ pos 2) cubic_second cubic_third cubic_first refl refl refl) h
+cubic_weights m h = All-contains (λ m. weight (ones 4) (lead m) ≡ pos 2) cubic_moves m (all_three (λ m. weight (ones 4) (lead m) ≡ pos 2) cubic_second cubic_third cubic_first refl refl refl) h
 
 pub of_twisted_cubic : IsMinimalMarkovBasis cubic_lattice cubic_moves
-of_twisted_cubic = the_answer cubic_graded (answer_of_one_weight cubic_graded cubic_basis (pos 2) weights)
+of_twisted_cubic = the_answer cubic_graded (answer_of_one_weight cubic_graded cubic_basis (pos 2) cubic_weights)

@@ -1,8 +1,8 @@
 -- What the worked examples speak of, each thing named once.
-use Rattle.std.specs.Prelude.{ℕ, List, [], ◌∷◌, ◌++◌, None, Some, codes, ℤ, pos, neg_ℤ}
+use Rattle.std.specs.Prelude.{◌≡◌, ℕ, List, [], ◌∷◌, ◌++◌, None, Some, codes, ℤ, pos, neg_ℤ}
 use Rattle.mk_model.specs.Lattices.{Lattice, lattice_of, ones}
 use Rattle.mk_model.specs.Tables.{Grid, Limits}
-use Rattle.mk_model.specs.CoreStates.{Settle, pair_of, settle, CoreState, new_state, OverflowStop, stop_at}
+use Rattle.mk_model.specs.CoreStates.{Settle, pair_of, settle, CoreState, claim_of, halt_of, new_state, Halt, OverflowStop, stop_at}
 use Rattle.mk_model.specs.CoreStates.Way.{Coprime, Zero, Place}
 
 -- ---- two columns: (1 -1), (2 -2) and (4 -4)
@@ -32,8 +32,8 @@ cubic_rows = cubic_top ∷ cubic_bottom ∷ []
 abbrev pub cubic_lattice : Lattice
 cubic_lattice = lattice_of 4 cubic_rows (ones 4)
 
--- its three essential moves: (-1 2 -1 0) and (0 -1 2 -1), which are the rows as the standard list orients them, and
--- (-1 1 1 -1)
+-- its three essential moves: (-1 2 -1 0) and (0 -1 2 -1), which are the rows as the standard list orients
+-- them, and (-1 1 1 -1)
 abbrev pub cubic_first : List ℤ
 cubic_first = neg_ℤ (pos 1) ∷ pos 2 ∷ neg_ℤ (pos 1) ∷ pos 0 ∷ []
 
@@ -76,8 +76,8 @@ like_lattice = lattice_of 3 like_rows (ones 3)
 abbrev pub like_moves : List (List ℤ)
 like_moves = like_first ∷ like_second ∷ []
 
--- ---- the curve of weights 1, 2, 3: the rows (2 -1 0) and (1 1 -1), which are its essential moves, and (-1 2 -1), a move
--- of its reduced basis that isn't essential
+-- ---- the curve of weights 1, 2, 3: the rows (2 -1 0) and (1 1 -1), which are its essential moves, and
+-- (-1 2 -1), a move of its reduced basis that isn't essential
 abbrev pub curve_first : List ℤ
 curve_first = pos 2 ∷ neg_ℤ (pos 1) ∷ pos 0 ∷ []
 
@@ -187,9 +187,25 @@ begun_state = new_state start_moves 3 3 2
 abbrev pub narrow_state : CoreState
 narrow_state = new_state start_moves 3 2 2
 
+-- worker 0 has halted, for this, with one claim given up
+pub record IsHalted (state : CoreState) (halt : Halt) : Type 0 where
+  pub none_claimed : claim_of state 0 ≡ None
+  pub given_up : state.claims_given_up ≡ 1
+  pub kept : halt_of state 0 ≡ Some halt
+  pub first : state.first_halted ≡ Some 0
+
+-- ---- a chain: (1 1 -1 -1), (1 -1 1 -1) and (-1 1 1 -1)
+abbrev pub chain_moves : List (List ℤ)
+chain_moves =
+    (pos 1 ∷ pos 1 ∷ neg_ℤ (pos 1) ∷ neg_ℤ (pos 1) ∷ [])
+    ∷ (pos 1 ∷ neg_ℤ (pos 1) ∷ pos 1 ∷ neg_ℤ (pos 1) ∷ []) ∷ cubic_third ∷ []
+
 -- ---- overflows: 9223372036854775807 less -1, in the difference of a pair of two columns
 abbrev pub far_moves : List (List ℤ)
 far_moves = (neg_ℤ (pos 1) ∷ pos 1 ∷ []) ∷ (pos 9223372036854775807 ∷ neg_ℤ (pos 9223372036854775807) ∷ []) ∷ []
+
+abbrev pub far_state : CoreState
+far_state = new_state far_moves 3 3 2
 
 abbrev pub difference_stop : OverflowStop
 difference_stop = stop_at (pair_of 0 1) None None 0 (pos 9223372036854775807) (pos 1) (neg_ℤ (pos 1))
@@ -203,8 +219,8 @@ step_from = pos 5 ∷ pos 9223372036854775803 ∷ neg_ℤ (pos 92233720368547758
 
 abbrev pub step_moves : List (List ℤ)
 step_moves =
-    (neg_ℤ (pos 5) ∷ pos 4 ∷ pos 0 ∷ pos 1 ∷ []) ∷ (pos 0 ∷ pos 9223372036854775807 ∷ neg_ℤ (pos 9223372036854775807) ∷ pos 0 ∷ [])
-    ∷ step_taken ∷ []
+    (neg_ℤ (pos 5) ∷ pos 4 ∷ pos 0 ∷ pos 1 ∷ [])
+    ∷ (pos 0 ∷ pos 9223372036854775807 ∷ neg_ℤ (pos 9223372036854775807) ∷ pos 0 ∷ []) ∷ step_taken ∷ []
 
 abbrev pub step_stop : OverflowStop
 step_stop = stop_at (pair_of 0 1) (Some 2) (Some step_from) 1 (pos 9223372036854775803) (pos 1) (neg_ℤ (pos 5))

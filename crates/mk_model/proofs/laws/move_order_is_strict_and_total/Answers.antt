@@ -1,6 +1,6 @@
 use Rattle.mk_model.proofs.OrderLaws.{ComesBefore-irreflexive, ComesBefore-asymmetric}
 use Rattle.mk_model.proofs.MoveOrder.{ComesBefore-transitive, ComesBefore-total}
-use Rattle.mk_model.proofs.laws.moves_are_ordered.Goals as goal
+use Rattle.mk_model.proofs.laws.move_order_is_strict_and_total.Goals as goal
 
 pub returns : goal.returns
 returns c = record {

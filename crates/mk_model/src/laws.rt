@@ -1,7 +1,7 @@
 //! The laws of the definitions. Each is the contract of a function that takes nothing and gives
 //! nothing.
 
-ghost use Rattle.std.specs.Prelude.{◌≡◌, ◌⊎◌, ℕ, ℤ, List, [], ◌∷◌, ◌++◌, length, ◌≤◌, ◌<◌, Bool, false, IsTrue, All, Contains, pos, ◌≤ℤ◌, ◌↔◌};
+ghost use Rattle.std.specs.Prelude.{◌≡◌, ◌⊎◌, ℕ, ℤ, List, [], ◌∷◌, ◌++◌, length, ◌≤◌, ◌<◌, Bool, false, IsTrue, All, AllPairs, Contains, pos, ◌≤ℤ◌, ◌<ℤ◌, ◌↔◌};
 ghost use Rattle.mk_model.specs.Tables.{Grid, Limits, ReadsTable};
 ghost use Rattle.mk_model.specs.TableFaults.{Fault, HasFault};
 ghost use Rattle.mk_model.specs.Vectors.{negate, entry, zeros, add, subtract, negative_part, weight, IsPoint};
@@ -12,7 +12,7 @@ ghost use Rattle.mk_model.specs.Bases.{IsMinimalMarkovBasis, IsAnswer, ListsEsse
 ghost use Rattle.mk_model.specs.Reductions.{lcm, Divides, Meet, Reduct, IsIrreducible};
 ghost use Rattle.mk_model.specs.Pairs.{AreOrientedMoves, JoinedBelow, EveryPairJoined, AreDisjoint};
 ghost use Rattle.mk_model.specs.Saturation.{IsSupported, every_column, without_column, ConnectedUpTo, IsSignedRow, drop_redundant, NoneRedundant};
-ghost use Rattle.mk_model.specs.ReducedBases.{IsLeast, IsReducedBasis, LighterMoves, IsStarMove};
+ghost use Rattle.mk_model.specs.ReducedBases.{IsLeast, IsReducedBasis, LighterMoves, IsLeastOfComponent, IsStarMove};
 ghost use Rattle.mk_model.specs.CoreStates.{Settle, CoreState, start_of, new_state, phase_state};
 ghost use Rattle.mk_model.specs.Events.{Event, Happens, HappenInTurn};
 ghost use Rattle.mk_model.specs.Legal.{IsNext, Replays, IsLegal, IsEnded};
@@ -54,6 +54,8 @@ pub fn below_is_strict_and_total()
         IsBelow priority x y → IsBelow priority y z → IsBelow priority x z }
     ensures total { (n : ℕ) (priority : List ℕ) (x y : List ℤ) → length x ≡ n → length y ≡ n →
         ((c : ℕ) → c < n → Contains priority c) → (IsBelow priority x y ⊎ IsBelow priority y x) ⊎ (x ≡ y) }
+    ensures total_standard { (n : ℕ) (x y : List ℤ) → length x ≡ n → length y ≡ n →
+        (IsBelow (standard n) x y ⊎ IsBelow (standard n) y x) ⊎ (x ≡ y) }
     ensures all_standard { (n c : ℕ) → c < n → Contains (standard n) c }
 {}
 
@@ -102,6 +104,14 @@ pub fn irreducible_is_least()
         (x ≡ y) ⊎ IsBelow priority x y }
 {}
 
+/// When the redundant moves are dropped, those that are left are moves of the list, and the lead
+/// of each move of the list is divided by the lead of one that is left.
+pub fn drop_redundant_covers()
+    ensures members { (moves : List (List ℤ)) (m : List ℤ) → Contains (drop_redundant moves) m → Contains moves m }
+    ensures divisors { (moves : List (List ℤ)) (m : List ℤ) → Contains moves m →
+        (kept : List ℤ) × Contains (drop_redundant moves) kept × Divides (lead kept) (lead m) }
+{}
+
 /// Of the moves that are left when the redundant ones are dropped, no lead divides another.
 pub fn drop_redundant_apart()
     ensures { (moves : List (List ℤ)) → NoneRedundant (drop_redundant moves) }
@@ -131,6 +141,9 @@ pub fn join_chain()
     ensures member_reduct { (lattice : Lattice) (priority : List ℕ) (moves : List (List ℤ)) (a b r : List ℤ) →
         AreOrientedMoves lattice priority moves → Contains moves a → Contains moves b →
         Reduct moves (subtract b a) r → Contains moves r ⊎ Contains moves (negate r) → JoinedBelow lattice.columns priority moves a b }
+    ensures either_order { (lattice : Lattice) (priority : List ℕ) (moves : List (List ℤ)) (a b : List ℤ) →
+        AreOrientedMoves lattice priority moves → JoinedBelow lattice.columns priority moves a b →
+        JoinedBelow lattice.columns priority moves b a }
 {}
 
 /// What keeps a list connected up to columns, and what dropping its redundant moves leaves: with
@@ -208,6 +221,31 @@ pub fn reduced_basis_is_markov()
 pub fn reduced_basis_has_the_essential_moves()
     ensures { (lattice : Lattice) (moves : List (List ℤ)) (m : List ℤ) → HasGrading lattice →
         IsReducedBasis lattice moves → IsEssential lattice m → Contains moves m }
+{}
+
+/// A fibre has at most one least vector.
+pub fn least_vector_is_unique()
+    ensures { (lattice : Lattice) (x y : List ℤ) → HasGrading lattice →
+        IsLeast lattice.columns lattice.rows x → IsLeast lattice.columns lattice.rows y →
+        InLattice lattice.columns lattice.rows (subtract x y) → x ≡ y }
+{}
+
+/// What lighter moves of the lattice join, lighter members of the reduced basis join.
+pub fn lighter_members_join()
+    ensures { (lattice : Lattice) (basis : List (List ℤ)) (bound : ℤ) (x y : List ℤ) → HasGrading lattice →
+        IsReducedBasis lattice basis → Joined lattice.columns (LighterMoves lattice bound) x y →
+        Joined lattice.columns (λ m. Contains basis m × (weight lattice.grading (lead m) <ℤ bound)) x y }
+{}
+
+/// The members of the reduced basis whose leads are the least of their components are the answer,
+/// where from the lead of each other member lighter moves lead to a vector below it.
+pub fn answer_from_components()
+    ensures { (lattice : Lattice) (basis chosen : List (List ℤ)) → HasGrading lattice → IsReducedBasis lattice basis →
+        AllPairs (ComesBefore lattice.columns lattice.grading) chosen →
+        All (λ m. Contains basis m × IsLeastOfComponent lattice (lead m)) chosen →
+        ((m : List ℤ) → Contains basis m → Contains chosen m ⊎ ((x : List ℤ) × IsBelow (standard lattice.columns) x (lead m)
+        × Joined lattice.columns (LighterMoves lattice (weight lattice.grading (lead m))) (lead m) x)) →
+        IsAnswer lattice chosen }
 {}
 
 /// The essential moves are the least vectors of the components of a fibre, each less the least

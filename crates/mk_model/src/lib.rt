@@ -16,11 +16,12 @@ pub use examples::{
     table_fault_examples, text_examples, token_examples, vector_examples, walk_examples,
 };
 pub use laws::{
-    answer_has_the_essential_moves, answer_is_unique, answer_of_one_row, answer_without_rows,
-    below_is_strict_and_total, confluence_from_pairs, conn_drop, conn_free, connected_by_rows,
-    connected_up_to_none_is_markov, drop_redundant_apart, each_text_is_a_table_or_has_a_fault,
-    ended_is_joined, essential_is_markov, essential_is_minimal, essential_moves_are_stars,
-    events_keep_legal, every_fibre_is_finite, irreducible_is_least, join_chain, join_translate,
+    answer_from_components, answer_has_the_essential_moves, answer_is_unique, answer_of_one_row,
+    answer_without_rows, below_is_strict_and_total, confluence_from_pairs, conn_drop, conn_free,
+    connected_by_rows, connected_up_to_none_is_markov, drop_redundant_apart, drop_redundant_covers,
+    each_text_is_a_table_or_has_a_fault, ended_is_joined, essential_is_markov,
+    essential_is_minimal, essential_moves_are_stars, events_keep_legal, every_fibre_is_finite,
+    irreducible_is_least, join_chain, join_translate, least_vector_is_unique, lighter_members_join,
     move_order_is_strict_and_total, phase_is_legal, reached_is_legal, reduced_basis_divides,
     reduced_basis_has_the_essential_moves, reduced_basis_is_markov, reduced_basis_is_unique,
     replay_goes_on,

@@ -1,5 +1,5 @@
 use Rattle.std.proofs.Common.{refl}
-use Rattle.mk_model.proofs.OrderLaws.{IsBelow-irreflexive, IsBelow-asymmetric, IsBelow-transitive, IsBelow-total_along, standard_has}
+use Rattle.mk_model.proofs.OrderLaws.{IsBelow-irreflexive, IsBelow-asymmetric, IsBelow-transitive, IsBelow-total_along, IsBelow-total_standard, standard_has}
 use Rattle.mk_model.proofs.laws.below_is_strict_and_total.Goals as goal
 
 pub returns : goal.returns
@@ -8,5 +8,6 @@ returns c = record {
   asymmetric = λ priority x y b d. IsBelow-asymmetric priority x y b d;
   transitive = λ priority x y z b d. IsBelow-transitive priority x y z b d;
   total = λ n priority x y l k f. IsBelow-total_along n priority x y l k f;
+  total_standard = λ n x y l k. IsBelow-total_standard n x y l k;
   all_standard = λ n c l. standard_has n c l;
 }

@@ -1,12 +1,12 @@
 //! Completion by one worker: pair after pair is claimed, its difference reduced, and the pair settled.
 
-ghost use Rattle.std.specs.Prelude.{◌≡◌, ◌≢◌, ◌≤◌, ◌<◌, ℕ, length, None, Some, Ok, Err, IfOk, IfErr, OnOk, OnErr};
+ghost use Rattle.std.specs.Prelude.{◌≡◌, ◌≢◌, ◌↔◌, IfSome, ◌≤◌, ◌<◌, ℕ, length, None, Some, Ok, Err, IfOk, IfErr, OnOk, OnErr};
 ghost use Rattle.mk_model.specs.CoreStates.{Halt, pair_of, claim_of, halt_of};
 ghost use Rattle.mk_model.specs.Legal.{IsEnded};
 ghost use Rattle.mk_move.specs.MoveLists.{vectors_of};
 ghost use Rattle.mk_reduce.specs.Leads.{leads_of};
 ghost use Rattle.mk_core.specs.GoingOn.{ContinuesLedger, GoesOnUnclaimed, IsPairGiven, NoneClaims, FirstClaims, EndsBy, IsPhaseOfLedger};
-ghost use Rattle.mk_core.specs.Phases.{ledger_for, Finishes, HandsOn};
+ghost use Rattle.mk_core.specs.Phases.{ledger_for, phase_in, Finishes, AnswersOverBudget, PhaseIsOverBudget, HandsOn};
 ghost use Rattle.mk_core.specs.Remainders.{IsRemainderOfClaim};
 
 use crate::completed::Completed;
@@ -28,7 +28,8 @@ use std::alloc::Global;
 pub fn complete_alone(alloc: Global, job: Job) -> Result<Completed, Stopped>
     requires start { length job.start.moves ≤ job.basis_limit }
     requires limit { job.basis_limit ≤ 65536 }
-    ensures { Finishes (ledger_for job) result }
+    ensures answer { Finishes (ledger_for job) result }
+    ensures over_budget { IfSome (phase_in result) (λ phase. AnswersOverBudget result ↔ PhaseIsOverBudget (ledger_for job) phase) }
 {
     let Job {
         start,
@@ -44,6 +45,7 @@ pub fn complete_alone(alloc: Global, job: Job) -> Result<Completed, Stopped>
 pub fn finish_alone(alloc: Global, mut ledger: Ledger) -> Result<Completed, Stopped>
     requires unclaimed { (worker : ℕ) → claim_of ledger.state worker ≡ None }
     ensures answer { Finishes ledger result }
+    ensures over_budget { IfSome (phase_in result) (λ phase. AnswersOverBudget result ↔ PhaseIsOverBudget ledger phase) }
     ensures halted { (worker : ℕ) (halt : Halt) → ledger.state.first_halted ≡ Some worker → halt_of ledger.state worker ≡ Some halt → HandsOn halt result }
 {
     let mut finder = finder_of(alloc, ledger.basis())?;

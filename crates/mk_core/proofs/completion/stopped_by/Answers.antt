@@ -18,7 +18,7 @@ phase c = record {
 phase_is : (c : After-into_parts-start_len) → IsPhaseOfLedger c.args.ledger (phase c)
 phase_is c =
     let e = c.into_parts-start_len.ensures in
-    record { start_length = e.start_len; basis = e.basis; journal = e.journal; kept = e.kept }
+    record { start_length = e.start_len; basis = e.basis; journal = e.journal; thirds = e.thirds; kept = e.kept }
 
 overflow : (c : In-Some-Overflow) → IsFirstHalt c.args.ledger.state (Some (Overflow c.in-Some-Overflow.stop))
 overflow c =

@@ -2,7 +2,7 @@ use Rattle.std.proofs.Common.{◌<◌, arith, subst, sym}
 use Rattle.std.proofs.lemmas.Bool.Decides.{nat_tests}
 use Rattle.mk_ledger.specs.PairFlags.{pairs_of}
 use Rattle.mk_ledger.proofs.PairNumbers.{number_below, within_by_number}
-use Rattle.mk_ledger.proofs.frontier.Frontier.is_within.Goals as goal
+use Rattle.mk_ledger.proofs.pairs.Frontier.is_within.Goals as goal
 
 pub returns : goal.returns
 returns c =

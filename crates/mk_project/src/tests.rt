@@ -1,8 +1,6 @@
-use crate::{input_line, stop_line};
+use crate::{InputFault, InputFile, input_line};
 use mk_files::{Place, TableFault};
 use mk_grading::GradeFault;
-use mk_move::OverflowAt;
-use mk_solve::{BookStop, InputFault, InputFile, OverflowPlace, OverflowStop};
 use std::test::Fail;
 
 #[test]
@@ -85,34 +83,5 @@ fn says_what_is_wrong_with_the_input(rt: HostRuntime) -> Result<(), Fail> {
     ] {
         assert_eq!(rt; input_line(rt.alloc(), "P", fault)?.as_str(), line);
     }
-    Ok(())
-}
-
-#[test]
-fn says_why_a_run_stopped(rt: HostRuntime) -> Result<(), Fail> {
-    let overflow = BookStop::Overflow {
-        place: OverflowPlace::Pair { phase: 0 },
-        stop: OverflowStop {
-            i: 0,
-            j: 1,
-            by: None,
-            operand: None,
-            at: OverflowAt {
-                column: 1,
-                left: -4611686018427387905,
-                times: 1,
-                right: 4611686018427387905,
-            },
-        },
-    };
-    assert_eq!(rt;
-        stop_line(rt.alloc(), &overflow)?.as_str(),
-        "markov: overflow in column 2: -4611686018427387905 - (1) * (4611686018427387905)\n"
-    );
-    let budget = BookStop::Budget { settled: 0 };
-    assert_eq!(rt;
-        stop_line(rt.alloc(), &budget)?.as_str(),
-        "markov: budget of 0 pairs used and a pair is left\n"
-    );
     Ok(())
 }

@@ -1,56 +1,12 @@
 ghost use Rattle.std.specs.Prelude.{◌≡◌, suc, Some, IfOk, string_bytes};
-ghost use Rattle.mk_lines.specs.Lines.{input_line, place_text, table_complaint, grade_complaint, ending_of, stop_line, overflow_line, budget_line, full_line};
+ghost use Rattle.mk_project.specs.Lines.{input_line, place_text, table_complaint, grade_complaint};
 
-use mk_files::{Place, TableFault};
+use crate::fault::InputFault;
+use crate::file::FILE_LIMIT;
+use mk_files::{MAX_COLUMNS, MAX_ROWS, Place, TableFault};
 use mk_grading::GradeFault;
-use mk_move::OverflowAt;
-use mk_solve::{BookStop, InputFault, InputFile};
 use std::alloc::{AllocError, Global};
 use std::fmt;
-
-/// The line for words that are no command.
-pub const USAGE: &str =
-    "usage: markov [--workers N] [--budget N] PROJECT or markov [--workers N] [--budget N] --model RxC[xD]\n";
-
-/// The line for a folder that failed.
-pub const FOLDER: &str = "markov: a file or stream failed\n";
-
-/// The line for want of memory.
-pub const MEMORY: &str = "markov: out of memory\n";
-
-const FULL: &str = "markov: basis holds 65536 moves and needs another\n";
-
-/// The line for why a run stopped.
-pub fn stop_line(alloc: Global, stop: &BookStop) -> Result<String, AllocError>
-    ensures { IfOk result (λ line. string_bytes line ≡ stop_line stop.now) }
-{
-    match stop {
-        BookStop::Overflow { stop, .. } => overflow_line(alloc, stop.at),
-        BookStop::Budget { settled } => budget_line(alloc, *settled),
-        BookStop::BasisFull { .. } => String::from_str(alloc, FULL),
-    }
-}
-
-/// The line for a column, counted from 1, where an entry of `left - times * right` left the range.
-fn overflow_line(alloc: Global, at: OverflowAt) -> Result<String, AllocError>
-    ensures { IfOk result (λ line. string_bytes line ≡ overflow_line at) }
-{
-    let OverflowAt {
-        column,
-        left,
-        times,
-        right,
-    } = at;
-    let column = ordinal(column);
-    format!(in alloc; "markov: overflow in column {column}: {left} - ({times}) * ({right})\n")
-}
-
-/// The line for so many settled pairs, as many as a run may settle, while a pair is left.
-fn budget_line(alloc: Global, settled: u64) -> Result<String, AllocError>
-    ensures { IfOk result (λ line. string_bytes line ≡ budget_line settled) }
-{
-    format!(in alloc; "markov: budget of {settled} pairs used and a pair is left\n")
-}
 
 /// The line for a fault of the project's input.
 pub fn input_line(alloc: Global, project: &str, fault: InputFault) -> Result<String, AllocError>
@@ -59,11 +15,11 @@ pub fn input_line(alloc: Global, project: &str, fault: InputFault) -> Result<Str
     match fault {
         InputFault::NoLattice => format!(in alloc; "markov: {project}.lat: not there\n"),
         InputFault::FileSize { file, .. } => {
-            let ending = ending(file);
-            format!(in alloc; "markov: {project}{ending}: more than 67108864 bytes\n")
+            let ending = file.ending();
+            format!(in alloc; "markov: {project}{ending}: more than {FILE_LIMIT} bytes\n")
         }
         InputFault::Table { file, fault } => {
-            let ending = ending(file);
+            let ending = file.ending();
             let complaint = table_complaint(alloc, fault)?;
             format!(in alloc; "markov: {project}{ending}{complaint}")
         }
@@ -71,17 +27,6 @@ pub fn input_line(alloc: Global, project: &str, fault: InputFault) -> Result<Str
             let complaint = grade_complaint(alloc, project, fault)?;
             format!(in alloc; "markov: {project}{complaint}")
         }
-    }
-}
-
-/// The ending of a file's name.
-fn ending(file: InputFile) -> &'static str
-    ensures { result.now ≡ ending_of file }
-{
-    match file {
-        InputFile::Lat => ".lat",
-        InputFile::Mat => ".mat",
-        InputFile::Grade => ".grade",
     }
 }
 
@@ -107,8 +52,11 @@ fn table_complaint(alloc: Global, fault: TableFault) -> Result<String, AllocErro
             format!(in alloc; "{}: {found} of 2 header numbers\n", At(place))
         }
         TableFault::BadNumber(place) => format!(in alloc; "{}: not a number\n", At(place)),
-        TableFault::Rows(place) => format!(in alloc; "{}: more than 4096 rows\n", At(place)),
-        TableFault::Columns(place) => format!(in alloc; "{}: more than 512 columns\n", At(place)),
+        TableFault::Rows(place) => format!(in alloc; "{}: more than {MAX_ROWS} rows\n", At(place)),
+        TableFault::Columns(place) => format!(in alloc;
+            "{}: more than {MAX_COLUMNS} columns\n",
+            At(place)
+        ),
         TableFault::EntryRange(place) => format!(in alloc; "{}: number out of range\n", At(place)),
         TableFault::Missing {
             place,

@@ -1,13 +1,6 @@
+use crate::file::InputFile;
 use mk_files::TableFault;
 use mk_grading::GradeFault;
-
-/// A file of a project.
-#[derive(Clone, Copy, Debug, PartialEq, Eq)]
-pub enum InputFile {
-    Lat,
-    Mat,
-    Grade,
-}
 
 /// What is wrong with the input. Tried in this order, file by file.
 #[derive(Clone, Copy, Debug, PartialEq, Eq)]

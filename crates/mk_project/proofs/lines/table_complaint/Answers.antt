@@ -1,6 +1,6 @@
 use Rattle.std.proofs.Common.{append_assoc}
-use Rattle.mk_lines.proofs.LineParts.{in_other_words}
-use Rattle.mk_lines.proofs.lines.table_complaint.Goals as goal
+use Rattle.mk_project.proofs.LineParts.{in_other_words}
+use Rattle.mk_project.proofs.lines.table_complaint.Goals as goal
 
 pub returns-in-NoHeader : goal.returns-in-NoHeader
 returns-in-NoHeader c = rw c.in-NoHeader.is (in_other_words _ _ _ c.format.ensures.ok (simp append_assoc))
@@ -9,10 +9,10 @@ pub returns-in-BadNumber : goal.returns-in-BadNumber
 returns-in-BadNumber c = rw c.in-BadNumber.is c.format-in-BadNumber.ensures.ok
 
 pub returns-in-Rows : goal.returns-in-Rows
-returns-in-Rows c = rw c.in-Rows.is c.format-in-Rows.ensures.ok
+returns-in-Rows c = rw c.in-Rows.is (in_other_words _ _ _ c.format-in-Rows.ensures.ok (simp append_assoc))
 
 pub returns-in-Columns : goal.returns-in-Columns
-returns-in-Columns c = rw c.in-Columns.is c.format-in-Columns.ensures.ok
+returns-in-Columns c = rw c.in-Columns.is (in_other_words _ _ _ c.format-in-Columns.ensures.ok (simp append_assoc))
 
 pub returns-in-EntryRange : goal.returns-in-EntryRange
 returns-in-EntryRange c = rw c.in-EntryRange.is c.format-in-EntryRange.ensures.ok

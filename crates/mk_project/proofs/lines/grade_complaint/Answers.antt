@@ -2,8 +2,8 @@ use Rattle.std.proofs.Common.{rules, append_assoc}
 use mir.Syntax.{w64, w128}
 use mir.Val.{SFits}
 use Rattle.std.proofs.lemmas.Int.{to_z-of_z}
-use Rattle.mk_lines.proofs.LineParts.{in_other_words}
-use Rattle.mk_lines.proofs.lines.grade_complaint.Goals as goal
+use Rattle.mk_project.proofs.LineParts.{in_other_words}
+use Rattle.mk_project.proofs.lines.grade_complaint.Goals as goal
 
 pub returns-in-MatColumns : goal.returns-in-MatColumns
 returns-in-MatColumns c = rw c.in-MatColumns.is (in_other_words _ _ _ c.format.ensures.ok (simp append_assoc))

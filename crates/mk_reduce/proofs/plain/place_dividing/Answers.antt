@@ -8,7 +8,7 @@ use Rattle.mk_model.proofs.VectorAlgebra.{length-positive_part}
 use Rattle.mk_move.specs.Moves.{Weighed}
 use Rattle.mk_move.specs.Sides.{part_of}
 use Rattle.mk_reduce.proofs.LeadLists.{lead_at, all_leads}
-use Rattle.mk_reduce.proofs.plain.first_dividing.Goals as goal
+use Rattle.mk_reduce.proofs.plain.place_dividing.Goals as goal
 
 pub lead_divides-requires : goal.lead_divides-requires
 lead_divides-requires c =

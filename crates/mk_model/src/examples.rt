@@ -21,7 +21,7 @@ ghost use Rattle.mk_model.specs.Saturation.{is_redundant, needed, drop_redundant
 ghost use Rattle.mk_model.specs.CoreStates.{CoreState, pair_of, settle, difference, IsPairOf, IsLesser};
 ghost use Rattle.mk_model.specs.CoreStates.Way.{Coprime, Zero, Place};
 ghost use Rattle.mk_model.specs.CoreStates.Halt.{Overflow, Full, Memory};
-ghost use Rattle.mk_model.specs.Overflows.{IsGenuineOverflow, IsTailOverflow};
+ghost use Rattle.mk_model.specs.Overflows.{IsGenuineOverflow, IsTailOverflow, IsPairOfWeight};
 ghost use Rattle.mk_model.specs.Events.{IsChain, Happens, HappenInTurn, with_claim};
 ghost use Rattle.mk_model.specs.Events.Event.{Claims, Settles, Halts};
 ghost use Rattle.mk_model.specs.Legal.{Replays, IsLegal, IsEnded};
@@ -38,7 +38,7 @@ ghost use Rattle.mk_model.specs.Worked.{wide_limits, digit_limits, column_one, s
 ghost use Rattle.mk_model.specs.Worked.{completed_moves, placing, reducing, skipping, begun_state};
 ghost use Rattle.mk_model.specs.Worked.{narrow_state, far_moves, difference_stop, step_moves};
 ghost use Rattle.mk_model.specs.Worked.{step_stop, chain_moves, far_state, IsHalted};
-ghost use Rattle.mk_model.specs.Worked.{ended_phase, tail_moves, tail_heavy, tail_stop};
+ghost use Rattle.mk_model.specs.Worked.{ended_phase, tail_moves, tail_stop};
 
 /// Entries, sums, multiples, parts and weights of vectors; points, and the range of entries.
 pub fn vector_examples()
@@ -211,12 +211,15 @@ pub fn redundancy_examples()
 {}
 
 /// The oriented rows of the twisted cubic: their leads are disjoint, and a walk joins the two
-/// below the least common multiple of these. With `(-1 1 1 -1)` every pair is joined below.
+/// below the least common multiple of these. With `(-1 1 1 -1)` every pair is joined below. On the
+/// curve of weights 1, 2, 3 the leads `(2 0 0)` and `(1 1 0)` overlap, and `(2 1 0)` weighs 4, as
+/// `(0 2 0)` does.
 pub fn pair_examples()
     ensures multiple_of_leads { lcm (lead cubic_first) (lead cubic_second) ≡ (pos 0 ∷ pos 2 ∷ pos 2 ∷ pos 0 ∷ []) }
     ensures oriented_moves { AreOrientedMoves cubic_lattice (standard 4) cubic_turned }
     ensures disjoint { AreDisjoint (lead cubic_first) (lead cubic_second) }
     ensures joined_below { JoinedBelow 4 (standard 4) cubic_turned cubic_first cubic_second }
+    ensures of_weight { IsPairOfWeight curve_weights (curve_first ∷ curve_second ∷ curve_third ∷ []) (pair_of 0 1) }
     ensures every_pair { EveryPairJoined 4 (standard 4) cubic_moves }
 {}
 
@@ -264,7 +267,7 @@ pub fn chain_examples()
 pub fn overflow_examples()
     ensures difference { IsGenuineOverflow far_moves difference_stop }
     ensures step { IsGenuineOverflow step_moves step_stop }
-    ensures tail_step { IsTailOverflow tail_moves 0 1 tail_heavy tail_stop }
+    ensures tail_step { IsTailOverflow tail_moves 0 tail_stop }
 {}
 
 /// The same completion by events, with two workers, until it is ended; and while worker 0 has the

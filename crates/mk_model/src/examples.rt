@@ -14,10 +14,10 @@ ghost use Rattle.mk_model.specs.Tables.{is_space, tokens, IsCount, IsNumber, Gri
 ghost use Rattle.mk_model.specs.TableFaults.{line_of, HasFault};
 ghost use Rattle.mk_model.specs.TableFaults.{NoHeader, BadNumber, Rows, Columns, EntryRange, Missing, Trailing};
 ghost use Rattle.mk_model.specs.Texts.{move_text};
-ghost use Rattle.mk_model.specs.Reductions.{lcm, Divides, Meet, Reduct, TailReduct, IsIrreducible, IsNormal};
-ghost use Rattle.mk_model.specs.Pairs.{AreOrientedMoves, AreDisjoint, JoinedBelow, EveryPairJoined};
+ghost use Rattle.mk_model.specs.Reductions.{lcm, Divides, Reaches, IsDescent, Meet, IsReduction, Reduct, TailReduct, IsIrreducible, IsNormal};
+ghost use Rattle.mk_model.specs.Pairs.{AreOrientedMoves, IsPointBelow, AreDisjoint, JoinedBelow, EveryPairJoined};
 ghost use Rattle.mk_model.specs.Saturation.{IsSupported, every_column, without_column, JoinedUpTo, ConnectedUpTo};
-ghost use Rattle.mk_model.specs.Saturation.{is_redundant, needed, drop_redundant, NoneRedundant};
+ghost use Rattle.mk_model.specs.Saturation.{IsSignedRow, divides, has_divisor, is_redundant, needed, drop_redundant, NoneRedundant};
 ghost use Rattle.mk_model.specs.CoreStates.{CoreState, pair_of, settle, difference, IsPairOf, IsLesser};
 ghost use Rattle.mk_model.specs.CoreStates.Way.{Coprime, Zero, Place};
 ghost use Rattle.mk_model.specs.CoreStates.Halt.{Overflow, Full, Memory};
@@ -28,7 +28,7 @@ ghost use Rattle.mk_model.specs.Books.{lists_for, all_columns, BookIsComplete, B
 ghost use Rattle.mk_model.specs.Books.PlainStop.{Budget};
 ghost use Rattle.mk_model.specs.Legal.{Replays, IsLegal, IsEnded};
 ghost use Rattle.mk_model.specs.Worked.{unit_move, double_move, fourfold_move, double_lattice};
-ghost use Rattle.mk_model.specs.Worked.{cubic_top, cubic_rows, cubic_lattice, cubic_first};
+ghost use Rattle.mk_model.specs.Worked.{cubic_top, cubic_bottom, cubic_rows, cubic_lattice, cubic_first};
 ghost use Rattle.mk_model.specs.Worked.{cubic_second, cubic_third, cubic_turned, cubic_moves};
 ghost use Rattle.mk_model.specs.Worked.{cubic_outer, cubic_inner, like_first, like_second, like_row};
 ghost use Rattle.mk_model.specs.Worked.{like_rows, like_lattice, like_moves, curve_first};
@@ -189,10 +189,15 @@ pub fn text_examples()
     ensures none { move_text 4 [] ≡ codes "0 4" ++ 10 ∷ [] }
 {}
 
-/// On the twisted cubic: steps down that meet, `(1 -3 3 -1)` with the reduct 0, a reduct of a tail,
-/// what no lead divides, what is normal, and what divides another vector.
+/// On the twisted cubic: steps down from `(0 2 2 0)`, and steps down that meet; `(1 -3 3 -1)` with
+/// the reduct 0, and its first step, to `(1 -2 1 0)`; a reduct of a tail, what no lead divides, what
+/// is normal, and what divides another vector.
 pub fn reduction_examples()
+    ensures descent { IsDescent cubic_turned (pos 0 ∷ pos 2 ∷ pos 2 ∷ pos 0 ∷ []) (pos 1 ∷ pos 0 ∷ pos 3 ∷ pos 0 ∷ []) }
+    ensures descents { Reaches (IsDescent cubic_turned) (pos 0 ∷ pos 2 ∷ pos 2 ∷ pos 0 ∷ [])
+        (pos 1 ∷ pos 1 ∷ pos 1 ∷ pos 1 ∷ []) }
     ensures meet { Meet cubic_turned (pos 1 ∷ pos 0 ∷ pos 3 ∷ pos 0 ∷ []) (pos 0 ∷ pos 3 ∷ pos 0 ∷ pos 1 ∷ []) }
+    ensures reduction { IsReduction cubic_turned (pos 1 ∷ neg_ℤ (pos 3) ∷ pos 3 ∷ neg_ℤ (pos 1) ∷ []) cubic_top }
     ensures reduct { Reduct cubic_turned (pos 1 ∷ neg_ℤ (pos 3) ∷ pos 3 ∷ neg_ℤ (pos 1) ∷ []) (zeros 4) }
     ensures tail_reduct { TailReduct cubic_turned (pos 1 ∷ pos 1 ∷ neg_ℤ (pos 2) ∷ pos 0 ∷ [])
         (pos 1 ∷ pos 0 ∷ pos 0 ∷ neg_ℤ (pos 1) ∷ []) }
@@ -205,6 +210,8 @@ pub fn reduction_examples()
 /// Of the moves `(2 -2)`, `(1 -1)` and `(1 -1)` the first and the last are redundant. Of the answer
 /// of the twisted cubic none is.
 pub fn redundancy_examples()
+    ensures divides_test { divides (pos 1 ∷ pos 0 ∷ []) (pos 2 ∷ pos 0 ∷ []) ≡ true }
+    ensures divisor { has_divisor double_move unit_move ≡ true }
     ensures larger_lead { is_redundant [] double_move (unit_move ∷ unit_move ∷ []) ≡ true }
     ensures first_of_two { is_redundant (double_move ∷ []) unit_move (unit_move ∷ []) ≡ false }
     ensures second_of_two { is_redundant (double_move ∷ unit_move ∷ []) unit_move [] ≡ true }
@@ -220,6 +227,8 @@ pub fn redundancy_examples()
 pub fn pair_examples()
     ensures multiple_of_leads { lcm (lead cubic_first) (lead cubic_second) ≡ (pos 0 ∷ pos 2 ∷ pos 2 ∷ pos 0 ∷ []) }
     ensures oriented_moves { AreOrientedMoves cubic_lattice (standard 4) cubic_turned }
+    ensures point_below { IsPointBelow 4 (standard 4) (pos 0 ∷ pos 2 ∷ pos 2 ∷ pos 0 ∷ [])
+        (pos 1 ∷ pos 1 ∷ pos 1 ∷ pos 1 ∷ []) }
     ensures disjoint { AreDisjoint (lead cubic_first) (lead cubic_second) }
     ensures joined_below { JoinedBelow 4 (standard 4) cubic_turned cubic_first cubic_second }
     ensures of_weight { IsPairOfWeight curve_weights (curve_first ∷ curve_second ∷ curve_third ∷ []) (pair_of 0 1) }
@@ -227,11 +236,12 @@ pub fn pair_examples()
 {}
 
 /// The rows of the twisted cubic join `(1 0 0 1)` and `(0 1 1 0)` once `(0 1 0 0)` is added, and
-/// are connected up to all columns.
+/// are connected up to all columns. They are the negatives of the moves as they are oriented.
 pub fn saturation_examples()
     ensures removed { (without_column every_column 1 0 ≡ true) × (without_column every_column 1 1 ≡ false) }
     ensures supported { IsSupported (λ c. c == 1) (pos 0 ∷ pos 1 ∷ pos 0 ∷ pos 0 ∷ []) }
     ensures joined_up_to { JoinedUpTo 4 (λ c. c == 1) cubic_rows cubic_outer cubic_inner }
+    ensures signed_rows { All (IsSignedRow cubic_turned) (zeros 4 ∷ cubic_top ∷ cubic_bottom ∷ []) }
     ensures connected_up_to { ConnectedUpTo 4 cubic_rows every_column cubic_rows }
 {}
 

@@ -15,7 +15,7 @@ use Rattle.mk_ledger.specs.Entries.{settle_of}
 use Rattle.mk_core.specs.Phases.{ledger_for, state_of, IsPhaseFrom, IsBasisFull}
 use Rattle.mk_core.specs.declared.phase.Job.{Job}
 use Rattle.mk_core.specs.declared.phase.Phase.{Phase}
-use Rattle.mk_saturate.specs.Starts.{IsRowTurned}
+use Rattle.mk_model.specs.Orders.{IsRowTurned}
 use Rattle.mk_saturate.specs.Saturations.{IsJob, IsPhaseFromBasis}
 use Rattle.mk_saturate.proofs.Jobs.{phase_of_job}
 use Rattle.mk_saturate.proofs.Spans.{SameLattice-transitive}

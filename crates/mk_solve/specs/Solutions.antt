@@ -6,7 +6,7 @@ use Rattle.mk_model.specs.Bases.{IsMinimalMarkovBasis}
 use Rattle.mk_model.specs.CoreStates.{Pair as CorePair, pair_of, OverflowStop}
 use Rattle.mk_model.specs.Lattices.{lattice_of, nonzero_rows}
 use Rattle.mk_model.specs.Legal.{IsLegal, IsEnded}
-use Rattle.mk_model.specs.Orders.{standard}
+use Rattle.mk_model.specs.Orders.{standard, IsRowTurned}
 use Rattle.mk_model.specs.Overflows.{IsGenuineOverflow, IsTailOverflow}
 use Rattle.mk_model.specs.ReducedBases.{IsReducedBasis}
 use Rattle.mk_model.specs.Saturation.{drop_redundant}
@@ -16,7 +16,6 @@ use Rattle.mk_move.specs.Priorities.{others}
 use Rattle.mk_ledger.specs.Halts.{stop_of}
 use Rattle.mk_core.specs.Phases.{state_of, IsLeft, IsBasisFull}
 use Rattle.mk_core.specs.declared.phase.Phase.{Phase}
-use Rattle.mk_saturate.specs.Starts.{IsRowTurned}
 use Rattle.mk_minimise.specs.Minimal.{IsPairOfDegree}
 use Rattle.mk_solve.specs.Books.{Book, settled_of}
 use Rattle.mk_solve.specs.declared.book.BookStop.{BookStop}

@@ -2,7 +2,7 @@
 use Rattle.std.specs.Prelude.{◌≡◌, ℕ, ◌+◌, ◌<◌, ◌^◌, List, [], ◌∷◌, length, Option, None}
 use Rattle.mk_move.specs.MoveLists.{BasisView}
 use Rattle.mk_core.specs.declared.phase.Phase.{Phase}
-use Rattle.mk_solve.specs.declared.fault.InputFault.{InputFault}
+use Rattle.mk_project.specs.declared.fault.InputFault.{InputFault}
 use Rattle.mk_solve.specs.declared.book.BookStop.{BookStop}
 
 -- the fault of the input, the phases in their order, the reduced basis once it is made, and why the run stopped

@@ -39,6 +39,7 @@ pub mod EndedStates
 pub mod JournalExamples
 pub mod OverflowExamples
 pub mod EventExamples
+pub mod StateExamples
 pub mod OrderTests
 pub mod VectorExamples
 pub mod GradingExamples

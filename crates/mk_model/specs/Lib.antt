@@ -16,3 +16,4 @@ pub mod Overflows
 pub mod Events
 pub mod Legal
 pub mod Books
+pub mod Worked

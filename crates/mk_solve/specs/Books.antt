@@ -9,7 +9,7 @@ use Rattle.mk_move.specs.MoveLists.{BasisView, vectors_of}
 use Rattle.mk_ledger.specs.Entries.{settles_of}
 use Rattle.mk_ledger.specs.Halts.{stop_of}
 use Rattle.mk_core.specs.declared.phase.Phase.{Phase}
-use Rattle.mk_solve.specs.declared.fault.InputFault.{InputFault}
+use Rattle.mk_project.specs.declared.fault.InputFault.{InputFault}
 use Rattle.mk_solve.specs.declared.book.BookStop.{BookStop}
 use Rattle.mk_solve.specs.declared.book.BookStop.TheVariants.{Overflow, Budget, BasisFull}
 use Rattle.mk_solve.specs.declared.book.OverflowPlace.{OverflowPlace}

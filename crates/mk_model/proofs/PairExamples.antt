@@ -1,17 +1,20 @@
 -- The pairs of the twisted cubic, and its rows up to columns.
-use Rattle.std.proofs.Common.{◌≡◌, ◌⊎◌, inl, inr, ℕ, zero, suc, ◌==◌, true, List, [], ◌∷◌, ℤ, pos, Contains, arith, refl}
+use Rattle.std.proofs.Common.{◌≡◌, ◌⊎◌, inl, inr, ℕ, zero, suc, ◌==◌, true, List, [], ◌∷◌, ℤ, pos, Contains, arith, refl, ⊎_elim}
+use Rattle.std.proofs.lemmas.Int.{ints}
 use Rattle.std.proofs.lemmas.Bool.{both_ways}
 use Rattle.std.proofs.lemmas.List.Elements.{All-nil, All-cons}
 use Rattle.std.proofs.lemmas.List.Kept.{AllPairs-cons}
-use Rattle.mk_model.specs.Vectors.{entry, combine, add, subtract, negate, positive_part}
+use Rattle.mk_model.specs.Vectors.{entry, combine, add, subtract, negate, positive_part, weight}
 use Rattle.mk_model.specs.Lattices.{InLattice}
 use Rattle.mk_model.specs.Walks.Walk.{stay, step}
 use Rattle.mk_model.specs.Orders.{standard, IsOriented, lead}
 use Rattle.mk_model.specs.Reductions.{lcm}
 use Rattle.mk_model.specs.Reductions.Reaches.{here}
 use Rattle.mk_model.specs.Pairs.{AreOrientedMoves, IsPointBelow, AreDisjoint, JoinedBelow, EveryPairJoined}
+use Rattle.mk_model.specs.CoreStates.{pair_of}
+use Rattle.mk_model.specs.Overflows.{IsPairOfWeight}
 use Rattle.mk_model.specs.Saturation.{IsSupported, every_column, JoinedUpTo, ConnectedUpTo}
-use Rattle.mk_model.specs.Worked.{cubic_first, cubic_second, cubic_third, cubic_top, cubic_bottom, cubic_rows, cubic_turned, cubic_moves, cubic_lattice, cubic_outer, cubic_inner}
+use Rattle.mk_model.specs.Worked.{cubic_first, cubic_second, cubic_third, cubic_top, cubic_bottom, cubic_rows, cubic_turned, cubic_moves, cubic_lattice, cubic_outer, cubic_inner, curve_first, curve_second, curve_third, curve_weights}
 use Rattle.mk_model.proofs.OrderTests.{is_below, Decides-is_below}
 use Rattle.mk_model.proofs.NormalForms.{All-from_contains}
 use Rattle.mk_model.proofs.Reducts.{joined_by_member, joined_by_disjoint}
@@ -80,6 +83,17 @@ every_pair =
   where
     R : List ℤ → List ℤ → Type 0
     R = JoinedBelow 4 (standard 4) cubic_moves
+
+-- ---- on the curve of weights 1, 2, 3
+pub of_weight : IsPairOfWeight curve_weights (curve_first ∷ curve_second ∷ curve_third ∷ []) (pair_of 0 1)
+unfolding lcm combine positive_part weight
+of_weight = record {
+  of_list = record { ordered = omega arith; within = omega arith };
+  overlap = λ d. ⊎_elim (λ e. omega (arith, ints, e)) (λ e. omega (arith, ints, e)) (d 0);
+  move = curve_third;
+  member = (2, omega arith, refl);
+  same = refl;
+}
 
 -- ---- up to columns: the walk (1 1 0 1), (1 0 2 0), (0 2 1 0)
 pub supported : IsSupported (λ c. c == 1) (pos 0 ∷ pos 1 ∷ pos 0 ∷ pos 0 ∷ [])

@@ -21,9 +21,11 @@ ghost use Rattle.mk_model.specs.Saturation.{is_redundant, needed, drop_redundant
 ghost use Rattle.mk_model.specs.CoreStates.{CoreState, pair_of, settle, difference, IsPairOf, IsLesser};
 ghost use Rattle.mk_model.specs.CoreStates.Way.{Coprime, Zero, Place};
 ghost use Rattle.mk_model.specs.CoreStates.Halt.{Overflow, Full, Memory};
-ghost use Rattle.mk_model.specs.Overflows.{IsGenuineOverflow, IsTailOverflow};
+ghost use Rattle.mk_model.specs.Overflows.{IsGenuineOverflow, IsTailOverflow, IsPairOfWeight};
 ghost use Rattle.mk_model.specs.Events.{IsChain, Happens, HappenInTurn, with_claim};
 ghost use Rattle.mk_model.specs.Events.Event.{Claims, Settles, Halts};
+ghost use Rattle.mk_model.specs.Books.{lists_for, all_columns, BookIsComplete, BookIsUnderWay, HasStopped};
+ghost use Rattle.mk_model.specs.Books.PlainStop.{Budget};
 ghost use Rattle.mk_model.specs.Legal.{Replays, IsLegal, IsEnded};
 ghost use Rattle.mk_model.specs.Worked.{unit_move, double_move, fourfold_move, double_lattice};
 ghost use Rattle.mk_model.specs.Worked.{cubic_top, cubic_rows, cubic_lattice, cubic_first};
@@ -38,7 +40,8 @@ ghost use Rattle.mk_model.specs.Worked.{wide_limits, digit_limits, column_one, s
 ghost use Rattle.mk_model.specs.Worked.{completed_moves, placing, reducing, skipping, begun_state};
 ghost use Rattle.mk_model.specs.Worked.{narrow_state, far_moves, difference_stop, step_moves};
 ghost use Rattle.mk_model.specs.Worked.{step_stop, chain_moves, far_state, IsHalted};
-ghost use Rattle.mk_model.specs.Worked.{ended_phase, tail_moves, tail_heavy, tail_stop};
+ghost use Rattle.mk_model.specs.Worked.{ended_phase, tail_moves, tail_stop, unit_lattice};
+ghost use Rattle.mk_model.specs.Worked.{unit_book, starved_book};
 
 /// Entries, sums, multiples, parts and weights of vectors; points, and the range of entries.
 pub fn vector_examples()
@@ -211,12 +214,15 @@ pub fn redundancy_examples()
 {}
 
 /// The oriented rows of the twisted cubic: their leads are disjoint, and a walk joins the two
-/// below the least common multiple of these. With `(-1 1 1 -1)` every pair is joined below.
+/// below the least common multiple of these. With `(-1 1 1 -1)` every pair is joined below. On the
+/// curve of weights 1, 2, 3 the leads `(2 0 0)` and `(1 1 0)` overlap, and `(2 1 0)` weighs 4, as
+/// `(0 2 0)` does.
 pub fn pair_examples()
     ensures multiple_of_leads { lcm (lead cubic_first) (lead cubic_second) ≡ (pos 0 ∷ pos 2 ∷ pos 2 ∷ pos 0 ∷ []) }
     ensures oriented_moves { AreOrientedMoves cubic_lattice (standard 4) cubic_turned }
     ensures disjoint { AreDisjoint (lead cubic_first) (lead cubic_second) }
     ensures joined_below { JoinedBelow 4 (standard 4) cubic_turned cubic_first cubic_second }
+    ensures of_weight { IsPairOfWeight curve_weights (curve_first ∷ curve_second ∷ curve_third ∷ []) (pair_of 0 1) }
     ensures every_pair { EveryPairJoined 4 (standard 4) cubic_moves }
 {}
 
@@ -292,4 +298,15 @@ pub fn halt_examples()
         × IsHalted after (Overflow difference_stop) }
     ensures no_claim { (worker : ℕ) (after : CoreState) → ¬ (HappenInTurn 4 column_one begun_state
         (Claims 0 ∷ Halts 0 Memory ∷ Claims worker ∷ []) after) }
+{}
+
+/// The book of the lattice of `(1 -1)`: phases along the lists of the columns 0 and 1 and along the
+/// standard list, and the reduced basis. The book that begins. And the book of the twisted cubic
+/// that stops with a budget of 0 pairs.
+pub fn book_examples()
+    ensures lists { lists_for 4 (all_columns 4) ≡ (0 ∷ 3 ∷ 2 ∷ 1 ∷ []) ∷ (1 ∷ 3 ∷ 2 ∷ 0 ∷ []) ∷ (2 ∷ 3 ∷ 1 ∷ 0 ∷ [])
+        ∷ (3 ∷ 2 ∷ 1 ∷ 0 ∷ []) ∷ standard 4 ∷ [] }
+    ensures complete { BookIsComplete unit_lattice unit_book }
+    ensures begun { BookIsUnderWay cubic_lattice (record { phases = []; reduced = None }) }
+    ensures stopped { HasStopped cubic_lattice 0 starved_book (Budget 0) }
 {}

@@ -1,7 +1,7 @@
 use Rattle.std.proofs.Common.{refl}
 use Rattle.mk_model.specs.Vectors.{combine, positive_part}
 use Rattle.mk_model.specs.Reductions.{lcm}
-use Rattle.mk_model.proofs.PairExamples.{oriented_moves, disjoint, joined_below, every_pair}
+use Rattle.mk_model.proofs.PairExamples.{oriented_moves, disjoint, joined_below, of_weight, every_pair}
 use Rattle.mk_model.proofs.examples.pair_examples.Goals as goal
 
 pub returns : goal.returns
@@ -11,5 +11,6 @@ returns c = record {
   oriented_moves = oriented_moves;
   disjoint = disjoint;
   joined_below = joined_below;
+  of_weight = of_weight;
   every_pair = every_pair;
 }

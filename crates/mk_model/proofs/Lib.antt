@@ -25,6 +25,7 @@ pub mod StarLaws
 pub mod DivisorWeights
 pub mod ReducedLaws
 pub mod MoveOrder
+pub mod BookLaws
 pub mod TheAnswer
 pub mod Components
 pub mod FiniteFibres

@@ -3,12 +3,12 @@
 # examples/ against its answer, and what only real files show. The rows of whole runs stand in crates/mk_rows.
 # Usage: tests/program.sh PROGRAM
 
-[ $# -eq 1 ] && [ -f "$1" ] && [ -x "$1" ] || { echo "usage: $0 PROGRAM" >&2; exit 2; }
+[ $# -eq 1 ] && [ -f "$1" ] || { echo "usage: $0 PROGRAM" >&2; exit 2; }
 examples=$(realpath "$(dirname "$0")/../examples") || exit 2
 work=$(mktemp -d) || exit 2
 chmod 755 "$work"
 program=$work/markov
-cp "$1" "$program"
+cp "$1" "$program" && chmod 755 "$program"
 trap 'rm -rf "$work"' EXIT
 folder=$work/folder
 errors=$work/err

@@ -50,6 +50,7 @@ pub mod TokenExamples
 pub mod PairExamples
 pub mod ChainExamples
 pub mod HaltExamples
+pub mod BookExamples
 pub mod WalkExamples
 pub mod AnswerExamples
 pub mod TableExamples

@@ -26,6 +26,7 @@ pub mod DivisorWeights
 pub mod ReducedLaws
 pub mod MoveOrder
 pub mod BookLaws
+pub mod OneRowStops
 pub mod TheAnswer
 pub mod Components
 pub mod FiniteFibres

@@ -5,10 +5,12 @@
 //! or a worked example is the contract of a function without parameters.
 #![tactic(auto)]
 
+mod book_laws;
 mod examples;
 mod laws;
 mod plain;
 
+pub use book_laws::one_row_never_stops;
 pub use examples::{
     answer_examples, book_examples, chain_examples, event_examples, grading_examples,
     grading_fault_examples, halt_examples, journal_examples, lattice_examples, order_examples,

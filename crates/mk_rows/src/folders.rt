@@ -1,5 +1,7 @@
 use crate::runs::{INDEPENDENCE, MANY, MARGINS, NINE_MOVES, OLDER, OTHER, assert_run};
 use mk_run::Status;
+use std::alloc::AllocGlobal;
+use std::process::Abort;
 use std::test::Fail;
 
 const FAILED: &str = "markov: a file or stream failed\n";
@@ -7,6 +9,10 @@ const FAILED: &str = "markov: a file or stream failed\n";
 const SEGMENT: (&str, &str) = ("P.lat", "1 2\n2 -2\n");
 
 const CUBIC: (&str, &str) = ("P.lat", "2 4\n1 -2 1 0\n0 1 -2 1\n");
+
+const TABLES: (&str, &str) = ("P.lat", INDEPENDENCE);
+
+const SUMS: (&str, &str) = ("P.mat", MARGINS);
 
 const WIDE: (&str, &str) = ("P.lat", "1 513\n0\n");
 
@@ -39,6 +45,22 @@ fn each_call_fails_in_turn(rt: HostRuntime) -> Result<(), Fail> {
     Ok(())
 }
 
+// A run for `P` over these files, with this made and so many calls.
+fn assert_calls<'a>(
+    rt: &(impl Abort + AllocGlobal),
+    files: [(&'a str, &'a str); 3],
+    chunk: usize,
+    failing: [u64; 2],
+    wanted: (Status, &str),
+    made: &str,
+    calls: u64,
+) -> Result<(), Fail> {
+    let folder = assert_run(rt, &["P"], &files, chunk, &failing, wanted, &files)?;
+    assert_eq!(rt; folder.made(), made.as_bytes(), "{files:?}");
+    assert_eq!(rt; folder.calls(), calls, "{files:?}");
+    Ok(())
+}
+
 // Runs over a matrix or a grade that may be wrong, or where calls with these numbers fail: what is said, what the file being made
 // has, and how many calls there were. Each file is read as a table before the next is looked for, and all of them before a
 // grading is chosen: to read a file takes three calls, to look for one that isn't there one, to write a line or say it one. A
@@ -51,8 +73,6 @@ fn calls_have_their_order(rt: HostRuntime) -> Result<(), Fail> {
     let no_grade = "markov: P.grade: line 1, byte 2: not a number\n";
     let no_grading = "markov: P: no positive grading found\n";
     let no_end = "markov: P: no positive grading found";
-    let independence = ("P.lat", INDEPENDENCE);
-    let margins = ("P.mat", MARGINS);
     let rows = [
         (
             [OTHER, SHORT, WORDED],
@@ -118,7 +138,7 @@ fn calls_have_their_order(rt: HostRuntime) -> Result<(), Fail> {
             4,
         ),
         (
-            [independence, margins, OLDER],
+            [TABLES, SUMS, OLDER],
             MANY,
             [10, 10],
             Status::Folder,
@@ -200,9 +220,7 @@ fn calls_have_their_order(rt: HostRuntime) -> Result<(), Fail> {
         ),
     ];
     for (files, chunk, failing, status, said, made, calls) in rows {
-        let folder = assert_run(&rt, &["P"], &files, chunk, &failing, (status, said), &files)?;
-        assert_eq!(rt; folder.made(), made.as_bytes(), "{files:?}");
-        assert_eq!(rt; folder.calls(), calls, "{files:?}");
+        assert_calls(&rt, files, chunk, failing, (status, said), made, calls)?;
     }
     Ok(())
 }

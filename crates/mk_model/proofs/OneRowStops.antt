@@ -305,8 +305,8 @@ module _ (lattice : Lattice) (g : HasGrading lattice) where
         no_pair n w phase.basis pair (phase_of_one_row n w s.moves s.list phase (reached_row s.earlier s.moves (s.list ∷ s.left) s.before) s.along) p
 
     pub no_stop : (budget : ℕ) (book : PlainBook) (stop : PlainStop) → HasStopped lattice budget book stop → ⊥
-    no_stop budget book (Overflow (AtPair number) stop) (phase, s, free, genuine) = none_stands book number phase stop.pair s free.of_basis
+    no_stop budget book (Overflow (AtPair number) stop) (phase, s, free, genuine, less) = none_stands book number phase stop.pair s free.of_basis
     no_stop budget book (Overflow (AtTail index) stop) s = no_tail_step s.rest index stop (reached_row book.phases s.rest [] s.phases) s.genuine
     no_stop budget book (Overflow AtWeight stop) s = no_reduced_pair s.done.basis stop.pair few s.done.reduced s.of_weight.of_list
     no_stop budget book (Budget settled) (e, f, (number, phase, s, (pair, free))) = none_stands book number phase pair s free.of_basis
-    no_stop budget book (Full number pair) (phase, s, full, free) = none_stands book number phase pair s free.of_basis
+    no_stop budget book (Full number pair) (phase, s, full, free, less) = none_stands book number phase pair s free.of_basis

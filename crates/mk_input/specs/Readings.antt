@@ -60,7 +60,7 @@ IsShownBy after (FileSize file read) = (after.found ≡ Some Here) × (read ≡ 
 IsShownBy after (Table file fault) = (after.found ≡ Some Here) × (after.given ≤ FILE_LIMIT)
 IsShownBy after (NoGrade fault) = after.given ≤ FILE_LIMIT
 
--- Each fault is as the folder showed it, and one byte more than the limit was given only where a file is too long, unless
+-- Each fault is as the folder showed it, one byte more than the limit was given only where a file is too long, unless
 -- memory ran out.
 pub record IsShown {T : Type 0} (after : State) (result : Result T ReadFault) : Type 0 where
   pub faulty : (fault : InputFault) → IsErrOf result (Input fault) → IsShownBy after fault

@@ -10,11 +10,8 @@ invariant-loop-buffer g l =
     let state = g.F.Folder.state in
     let told = g.F.Folder.told in
     record {
-      here : (state l.folder).found ≡ Some Here;
       within : vec_len l.bytes ≤ l.limit;
-      given : (state l.folder).given ≡ vec_len l.bytes;
-      making : (state l.folder).making ≡ (state l.fn.folder).making;
-      later : (state l.fn.folder).faults ≤ (state l.folder).faults;
+      same : state l.folder ≡ record (state l.fn.folder) { given = vec_len l.bytes };
       room : vec_len l.buffer ≡ 65536;
       told : WhereTold (told l.fn.folder) (told l.folder) (HasRead l.bytes.items);
     }

@@ -4,7 +4,7 @@ ghost use Rattle.mk_model.specs.Tables.{rows_of, ReadsTable};
 ghost use Rattle.mk_files.specs.Bounds.{IsWithin};
 ghost use Rattle.mk_files.specs.Reading.{IsFaultOf};
 ghost use Rattle.mk_files.specs.declared.fault.TableFault.{TableFault};
-ghost use Rattle.mk_desk.specs.Folders.{HasCause, WhereTold};
+ghost use Rattle.mk_desk.specs.Folders.{HasCause, OnlyReadingMoved, WhereTold};
 ghost use Rattle.mk_project.specs.Files.{bounds_of, limits_for};
 ghost use Rattle.mk_input.specs.Readings.{table_refused, IsShown, ReadsFile, ReadsProject};
 
@@ -24,7 +24,7 @@ pub fn read_project<F: Folder>(
     project: &str,
 ) -> Result<Problem, ReadFault>
     ensures positive { IfOk result (λ problem. IsGradingOf problem.lat problem.grading) }
-    ensures making { (F.state folder.new).making ≡ (F.state folder.old).making }
+    ensures state { OnlyReadingMoved (F.state folder.old) (F.state folder.new) }
     ensures cause { HasCause ReadFault.Failed (F.state folder.old) (F.state folder.new) result }
     ensures shown { IsShown (F.state folder.new) result }
     ensures told { WhereTold (F.told folder.old) (F.told folder.new) (ReadsProject project.now result) }
@@ -49,7 +49,7 @@ fn read_file<F: Folder>(
     ensures entries { IfOk result (λ table. IfSome table (λ grid. All (IsWithin (bounds_of file)) grid.entries)) }
     ensures absent { result ≡ Ok None → (F.state folder.new).found ≡ Some Found.Absent }
     ensures given { OnOk result ((F.state folder.new).given ≤ FILE_LIMIT) }
-    ensures making { (F.state folder.new).making ≡ (F.state folder.old).making }
+    ensures state { OnlyReadingMoved (F.state folder.old) (F.state folder.new) }
     ensures cause { HasCause ReadFault.Failed (F.state folder.old) (F.state folder.new) result }
     ensures shown { IsShown (F.state folder.new) result }
     ensures told { WhereTold (F.told folder.old) (F.told folder.new) (ReadsFile file project.now result) }

@@ -1,39 +1,51 @@
--- What a run does with a lattice that is solved, or stopped.
-use Rattle.std.proofs.Common.{◌≡◌, List, Result, Err, IsErrAnd, ap, sym, subst, ◌∙◌, ◌≤◌, arith, ℤ}
-use Rattle.mk_model.specs.Bases.{IsMinimalMarkovBasis}
-use Rattle.mk_model.specs.Tables.{Grid, rows_of}
-use Rattle.mk_move.specs.MoveLists.{MoveListView, vectors_of}
+-- What the book has where a project is read, solved and written, or not.
+use Rattle.std.proofs.Common.{◌≡◌, ℕ, ℤ, List, Ok, Err, ap, refl, inl, inr, ◌≤◌}
+use Rattle.mk_desk.specs.Folders.{Desk, State}
+use Rattle.mk_desk.specs.declared.folder.DeskFault.{DeskFault}
+use Rattle.mk_desk.specs.declared.folder.DeskFault.TheVariants as desk
+use Rattle.mk_model.specs.ChosenGradings.{IsGradingOf}
+use Rattle.mk_model.specs.Tables.{Grid}
+use Rattle.mk_move.specs.MoveLists.{MoveListView}
+use Rattle.mk_input.specs.Readings.{IsShown, ReadsProject}
+use Rattle.mk_input.specs.declared.problem.Problem.{Problem}
+use Rattle.mk_input.specs.declared.fault.ReadFault.{ReadFault}
+use Rattle.mk_input.specs.declared.fault.ReadFault.TheVariants as read
 use Rattle.mk_solve.specs.Books.{Book, empty_book, settled_of}
-use Rattle.mk_solve.specs.Solutions.{IsSolved}
-use Rattle.mk_input.specs.Projects.{ProjectFiles, IsProblem}
-use Rattle.mk_run.specs.declared.fault.RunFault.{RunFault}
-use Rattle.mk_run.specs.declared.fault.RunFault.TheVariants.{Stopped}
-use Rattle.mk_run.specs.Runs.{default_budget, HasAnswer}
-use Rattle.mk_run.specs.Stages.{IsBookOf}
-use Rattle.mk_desk.proofs.Loading.{the_error}
-use Rattle.mk_model.specs.Lattices.{lattice_of}
+use Rattle.mk_solve.specs.Solutions.{Solves}
+use Rattle.mk_solve.specs.declared.solving.RunStop.{RunStop}
+use Rattle.mk_solve.specs.declared.solving.RunStop.TheVariants as solve
+use Rattle.mk_run.specs.Runs.{default_budget, IsDone}
+use Rattle.mk_run.specs.Stages.{Answers, HasBook, read_refused, stop_refused, write_refused}
+use Rattle.mk_run.proofs.Refusals.{read_alone}
 
--- a lattice that is solved has the answer
-pub answer_of_solved : (files : ProjectFiles) (lat : Grid) (w : List ℤ) (book : Book) (list : MoveListView) → IsProblem files lat w → IsSolved (rows_of lat) w book list → HasAnswer files book lat (vectors_of list.moves)
-answer_of_solved files lat w book list problem solved = record {
-  grading = w;
-  problem = problem;
-  done = solved.done;
-  answer = subst (λ n. IsMinimalMarkovBasis (lattice_of n (rows_of lat) w) (vectors_of list.moves)) problem.positive.columns solved.answer;
-}
+-- a lattice that is solved leaves the book done
+pub solved_is_done : (lat : Grid) (w : List ℤ) (list : MoveListView) (book : Book) → IsGradingOf lat w → Solves lat w default_budget (Ok list) book → IsDone book
+solved_is_done lat w list book positive h = ((h.1, h.0), record { lat = lat; grading = w; positive = positive; done = h.3.done })
 
--- a book that is empty still, where a run didn't begin to solve
-pub empty_is_kept : {T : Type 0} (book : Book) (fault : RunFault) → book ≡ empty_book → ¬ (fault ≡ Stopped) → IsBookOf {T = T} book (Err fault)
-unfolding settled_of
-empty_is_kept book fault e going = record {
-  input = ap (λ (b : Book). b.input) e;
-  settled = subst (λ (b : Book). settled_of b.phases ≤ default_budget) (sym e) (omega arith);
-  done = λ k. cc;
-  stopped = λ stopped. absurd (going (cc));
-  not_stopped = λ _. ap (λ (b : Book). b.stop) e;
-}
+-- a project that isn't read leaves it empty
+pub unread_book : (fault : ReadFault) (book : Book) (after : State) → book ≡ empty_book → IsShown {T = Problem} after (Err fault) → HasBook book after (Err (read_refused fault))
+unread_book read.Memory book after e shown = (ap (λ (b : Book). b.input) e, ap (λ (b : Book). b.stop) e)
+unread_book read.Failed book after e shown = inl (e, shown.failed refl)
+unread_book (read.Input fault) book after e shown = e
 
--- a fault that is passed on
-pub passed_stop : {T : Type 0} (result : Result T RunFault) (fault : RunFault) → IsErrAnd result (λ e. e ≡ fault) → result ≡ Err Stopped → fault ≡ Stopped
-passed_stop {T} result fault is e =
-    let both : ◌≡◌ {A = Result T RunFault} (Err fault) (Err Stopped) = sym (the_error result fault is) ∙ e in cc
+-- a lattice that isn't solved, and the stop
+pub unsolved_book : (lat : Grid) (w : List ℤ) (fault : RunStop) (book : Book) (after : State) → IsGradingOf lat w → Solves lat w default_budget (Err fault) book → HasBook book after (Err (stop_refused fault))
+unsolved_book lat w solve.Memory book after positive h = (h.1, h.0)
+unsolved_book lat w solve.Stopped book after positive h = (h.2.0, (h.0, h.2.1, record { lat = lat; grading = w; positive = positive; cause = h.2.2 }))
+
+-- so many pairs
+pub unsolved_is_few : (lat : Grid) (w : List ℤ) (fault : RunStop) (book : Book) → Solves lat w default_budget (Err fault) book → settled_of book.phases ≤ default_budget
+unsolved_is_few lat w solve.Memory book h = h.2
+unsolved_is_few lat w solve.Stopped book h = h.1
+
+-- an answer that isn't written
+pub unwritten_book : (fault : DeskFault) (book : Book) (after : State) → IsDone book → HasBook book after (Err (write_refused fault))
+unwritten_book desk.Memory book after done = done.0
+unwritten_book desk.Failed book after done = inr done
+
+-- the lattice was read, and solving it stopped, or memory ran out
+pub solving_refused : (project : List ℕ) (problem : Problem) (book : Book) (fault : RunStop) → Solves problem.lat problem.grading default_budget (Err fault) book →
+    (x y : Desk) → ReadsProject project (Ok problem) x y → Answers project book (Err (stop_refused fault)) x y
+solving_refused project problem book solve.Memory h x y r = read_alone project book x y r.1
+solving_refused project problem book solve.Stopped h x y r =
+    ((h.2.0, h.2.1, record { lat = problem.lat; grading = problem.grading; problem = r.0; cause = h.2.2 }), r.1)

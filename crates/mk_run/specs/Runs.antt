@@ -176,9 +176,9 @@ pub record RunsOut (project : List ℕ) (book : Book) (before after : Desk) : Ty
   pub stopped : IfSome book.stop (HasStop (project_files before.files project) book)
   pub left : Leaves project book (IsLine project book) before after
 
--- How a run for a project ends that isn't done: the headline has the other case.
+-- how a run for a project ends
 abbrev pub Ends : List ℕ → Book → Type 0 → Status → Desk → Desk → Type 0
-Ends project book rose Done before after = Unit {0}
+Ends project book rose Done before after = WritesMarkovBasis project before after × BooksProblem (project_files before.files project) book
 Ends project book rose Usage before after = ⊥
 Ends project book rose Input before after = RefusesInput project book rose before after
 Ends project book rose Folder before after = Leaves project book (λ line. line ≡ folder_line) before after

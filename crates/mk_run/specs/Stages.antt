@@ -3,6 +3,8 @@ use Rattle.std.specs.Prelude.{◌≡◌, ◌⊎◌, ◌+◌, ℕ, List, take, fa
 use Rattle.std.specs.FinMap.{insert}
 use Rattle.mk_move.specs.MoveLists.{MoveListView}
 use Rattle.mk_desk.specs.Folders.{Desk, State}
+use Rattle.mk_desk.specs.declared.folder.DeskFault.{DeskFault}
+use Rattle.mk_desk.specs.declared.folder.DeskFault.TheVariants as desk
 use Rattle.mk_project.specs.Lines.{input_line}
 use Rattle.mk_project.specs.declared.file.InputFile.{InputFile}
 use Rattle.mk_project.specs.declared.file.TheConstants.{FILE_LIMIT}
@@ -13,8 +15,6 @@ use Rattle.mk_input.specs.Readings.{OnlyRead, IsShownBy}
 use Rattle.mk_input.specs.declared.fault.ReadFault.{ReadFault}
 use Rattle.mk_input.specs.declared.fault.ReadFault.TheVariants as read
 use Rattle.mk_writer.specs.Writing.{text_of}
-use Rattle.mk_writer.specs.declared.fault.WriteFault.{WriteFault}
-use Rattle.mk_writer.specs.declared.fault.WriteFault.TheVariants as write
 use Rattle.mk_solve.specs.Books.{Book, empty_book}
 use Rattle.mk_solve.specs.declared.book.BookStop.{BookStop}
 use Rattle.mk_solve.specs.declared.solving.RunStop.{RunStop}
@@ -37,9 +37,9 @@ abbrev pub stop_refused : RunStop → RunFault
 stop_refused solve.Memory = Memory
 stop_refused solve.Stopped = Stopped
 
-abbrev pub write_refused : WriteFault → RunFault
-write_refused write.Memory = Memory
-write_refused write.Failed = Failed
+abbrev pub write_refused : DeskFault → RunFault
+write_refused desk.Memory = Memory
+write_refused desk.Failed = Failed
 
 -- What the book has where a run got so far, before a fault of the input is kept.
 abbrev pub HasBook : Book → State → Result Unit RunFault → Type 0
@@ -65,7 +65,7 @@ IsRefusal project book Stopped refusal =
     (stop : BookStop) × (book.stop ≡ Some stop) × (refusal.status ≡ status_of stop) × (text_of_line refusal.line ≡ stop_line stop)
 
 -- The project's `.mar` has the text of the list. After a refusal it was begun with a front of the text, or nothing changed.
-abbrev pub WritesAnswer : List ℕ → MoveListView → Result Unit WriteFault → Desk → Desk → Type 0
+abbrev pub WritesAnswer : List ℕ → MoveListView → Result Unit DeskFault → Desk → Desk → Type 0
 WritesAnswer project list (Ok done) before after =
     after ≡ record before { files = insert before.files (mar_name project) (text_of list); made_name = after.made_name; made = after.made }
 WritesAnswer project list (Err fault) before after =

@@ -18,7 +18,7 @@ use mk_input::read_project;
 use mk_minimise::MinimalList;
 use mk_project::file_name;
 use mk_solve::{RunBook, solve_alone};
-use mk_writer::{WriteFault, write_moves};
+use mk_writer::write_moves;
 use std::alloc::Global;
 
 /// How many pairs a run may settle.
@@ -110,12 +110,12 @@ fn write_answer<F: Folder>(
     folder: &mut F,
     project: &str,
     list: &MinimalList,
-) -> Result<(), WriteFault>
+) -> Result<(), DeskFault>
     requires { (F.state folder.old).making ≡ false }
     ensures state { F.state folder.new
         ≡ record (F.state folder.old) { making = (F.state folder.new).making; faults = (F.state folder.new).faults } }
     ensures making { OnOk result ((F.state folder.new).making ≡ false) }
-    ensures cause { HasCause WriteFault.Failed (F.state folder.old) (F.state folder.new) result }
+    ensures cause { HasCause DeskFault.Failed (F.state folder.old) (F.state folder.new) result }
     ensures told { WhereTold (F.told folder.old) (F.told folder.new) (WritesAnswer project.now list.now result) }
 {
     let name = file_name(alloc, project, ".mar")?;

@@ -1,0 +1,57 @@
+-- What the files decide of a run, by how it ends.
+use Rattle.std.proofs.Common.{◌≡◌, ◌⊎◌, ℕ, ◌≤◌, List, length, Some, ap, refl, sym, subst, ◌∙◌, inl, inr, ℤ}
+use Rattle.mk_desk.specs.Folders.{Desk, State, Rose}
+use Rattle.mk_input.specs.Projects.{project_files, IsFaulty, IsProblem}
+use Rattle.mk_input.proofs.OneReading.{one_fault, not_both, one_problem}
+use Rattle.mk_project.specs.declared.fault.InputFault.{InputFault}
+use Rattle.mk_solve.specs.Books.{Book}
+use Rattle.mk_run.specs.Runs.{HasStopOf, HasCauseOf, HasStop, BooksProblem, IsStopped, WritesMarkovBasis, Ends, IsDecided}
+use Rattle.mk_run.specs.declared.status.Status.{Status}
+use Rattle.mk_run.specs.declared.status.Status.TheVariants.{Done, Usage, Input, Folder, Overflow, Budget, Memory, Full}
+
+-- the answer, and the book
+pub answered : (project : List ℕ) (book : Book) (rose : Type 0) (status : Status) → status ≡ Done → (x z : Desk) → Ends project book rose status x z → WritesMarkovBasis project x z
+answered project book rose status e x z h = (subst (λ (s : Status). Ends project book rose s x z) e h).0
+
+pub booked : (project : List ℕ) (book : Book) (rose : Type 0) (status : Status) → status ≡ Done → (x z : Desk) → Ends project book rose status x z → BooksProblem (project_files x.files project) book
+booked project book rose status e x z h = (subst (λ (s : Status). Ends project book rose s x z) e h).1
+
+module _ (project : List ℕ) (book : Book) (before after : State) where
+  abbrev rose : Type 0
+  rose = Rose before.faults after.faults
+
+  abbrev Decided : Status → Desk → Desk → Type 0
+  Decided status x z = IsDecided project book rose status x z
+
+  stopped_decided : (status : Status) → HasStopOf status book → (x z : Desk) → IsStopped project book status rose x z → Decided status x z
+  stopped_decided status stop x z h = record {
+    faulty = λ fault has. absurd (not_both (project_files x.files project) h.cause.lat h.cause.grading fault h.cause.problem has);
+    solvable = λ lat w problem. inl (inr stop);
+    one_row = λ lat w problem few. ?;
+  }
+
+  pub decided : (status : Status) → HasCauseOf book before after status → (x z : Desk) → Ends project book rose status x z → Decided status x z
+  decided Done cause x z h = record {
+    faulty = λ fault has. absurd (not_both (project_files x.files project) h.1.lat h.1.grading fault h.1.problem has);
+    solvable = λ lat w problem. inl (inl refl);
+    one_row = λ lat w problem few. inl refl;
+  }
+  decided Usage cause x z h = absurd h
+  decided Input cause x z h = record {
+    faulty = λ fault has. inl (refl, h.kept ∙ ap Some (one_fault (project_files x.files project) h.fault fault h.faulty has));
+    solvable = λ lat w problem. absurd (not_both (project_files x.files project) lat w h.fault problem h.faulty);
+    one_row = λ lat w problem few. absurd (not_both (project_files x.files project) lat w h.fault problem h.faulty);
+  }
+  decided Folder cause x z h = record {
+    faulty = λ fault has. inr (inl cause.1);
+    solvable = λ lat w problem. inr (inl cause.1);
+    one_row = λ lat w problem few. inr (inl cause.1);
+  }
+  decided Overflow cause x z h = stopped_decided Overflow cause.0 x z h
+  decided Budget cause x z h = stopped_decided Budget cause.0 x z h
+  decided Full cause x z h = stopped_decided Full cause.0 x z h
+  decided Memory cause x z h = record {
+    faulty = λ fault has. inr (inr refl);
+    solvable = λ lat w problem. inr (inr refl);
+    one_row = λ lat w problem few. inr (inr refl);
+  }

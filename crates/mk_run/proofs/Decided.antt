@@ -9,13 +9,6 @@ use Rattle.mk_run.specs.Runs.{HasStopOf, HasCauseOf, HasStop, BooksProblem, IsSt
 use Rattle.mk_run.specs.declared.status.Status.{Status}
 use Rattle.mk_run.specs.declared.status.Status.TheVariants.{Done, Usage, Input, Folder, Overflow, Budget, Memory, Full}
 
--- the answer, and the book
-pub answered : (project : List ℕ) (book : Book) (rose : Type 0) (status : Status) → status ≡ Done → (x z : Desk) → Ends project book rose status x z → WritesMarkovBasis project x z
-answered project book rose status e x z h = (subst (λ (s : Status). Ends project book rose s x z) e h).0
-
-pub booked : (project : List ℕ) (book : Book) (rose : Type 0) (status : Status) → status ≡ Done → (x z : Desk) → Ends project book rose status x z → BooksProblem (project_files x.files project) book
-booked project book rose status e x z h = (subst (λ (s : Status). Ends project book rose s x z) e h).1
-
 module _ (project : List ℕ) (book : Book) (before after : State) where
   abbrev rose : Type 0
   rose = Rose before.faults after.faults
@@ -30,12 +23,15 @@ module _ (project : List ℕ) (book : Book) (before after : State) where
     one_row = λ lat w problem few. ?;
   }
 
-  pub decided : (status : Status) → HasCauseOf book before after status → (x z : Desk) → Ends project book rose status x z → Decided status x z
-  decided Done cause x z h = record {
-    faulty = λ fault has. absurd (not_both (project_files x.files project) h.1.lat h.1.grading fault h.1.problem has);
+  pub done_decided : (x z : Desk) → BooksProblem (project_files x.files project) book → Decided Done x z
+  done_decided x z h = record {
+    faulty = λ fault has. absurd (not_both (project_files x.files project) h.lat h.grading fault h.problem has);
     solvable = λ lat w problem. inl (inl refl);
     one_row = λ lat w problem few. inl refl;
   }
+
+  pub decided : (status : Status) → HasCauseOf book before after status → (x z : Desk) → Ends project book rose status x z → Decided status x z
+  decided Done cause x z h = done_decided x z h.1
   decided Usage cause x z h = absurd h
   decided Input cause x z h = record {
     faulty = λ fault has. inl (refl, h.kept ∙ ap Some (one_fault (project_files x.files project) h.fault fault h.faulty has));

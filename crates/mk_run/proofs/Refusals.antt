@@ -18,7 +18,7 @@ use Rattle.mk_run.specs.Stages.{HasBook, IsNotMaking, IsRefusal, IsRunShown, Lea
 use Rattle.mk_run.specs.Statuses.{status_of}
 use Rattle.mk_run.specs.declared.fault.RunFault.{RunFault}
 use Rattle.mk_run.specs.declared.fault.RunFault.TheVariants as run
-use Rattle.mk_run.specs.declared.refusal.Refusal.{Refusal}
+use Rattle.mk_run.specs.declared.refusal.Refused.{Refused}
 use Rattle.mk_run.specs.declared.status.Status.{Status}
 use Rattle.mk_run.specs.declared.status.Status.TheVariants.{Usage, Input, Folder, Memory}
 
@@ -62,7 +62,7 @@ module _ (project : List ℕ) (book : Book) (before between after : State) (idle
   making h = ap (λ (s : State). s.making) only ∙ h ∙ sym idle
 
   -- what the status of the refusal is caused by
-  status_cause : (fault : RunFault) (refusal : Refusal) → IsRefusal project (book_with book fault) fault refusal → HasBook book between (Err fault) → IsNotMaking between (Err fault) →
+  status_cause : (fault : RunFault) (refusal : Refused) → IsRefusal project (book_with book fault) fault refusal → HasBook book between (Err fault) → IsNotMaking between (Err fault) →
       HasCause {T = Unit {0}} run.Failed before between (Err fault) → HasCauseOf (book_with book fault) before after refusal.status
   status_cause run.Memory refusal r h m cause = subst (HasCauseOf book before after) (sym r.0) (left_book book run.Memory between h)
   status_cause run.Failed refusal r h m cause = subst (HasCauseOf book before after) (sym r.0) (
@@ -74,7 +74,7 @@ module _ (project : List ℕ) (book : Book) (before between after : State) (idle
   status_cause run.Stopped refusal r h m cause =
       subst (HasCauseOf book before after) (sym r.2) (stop_cause book r.0 before after (its_stop book h.0 r.0 r.1 h.1) (making m))
 
-  pub refused_cause : (fault : RunFault) (refusal : Refusal) (status : Status) → (status ≡ refusal.status) ⊎ (status ≡ Memory) → IsRefusal project (book_with book fault) fault refusal →
+  pub refused_cause : (fault : RunFault) (refusal : Refused) (status : Status) → (status ≡ refusal.status) ⊎ (status ≡ Memory) → IsRefusal project (book_with book fault) fault refusal →
       HasBook book between (Err fault) → IsNotMaking between (Err fault) → HasCause {T = Unit {0}} run.Failed before between (Err fault) → HasCauseOf (book_with book fault) before after status
   refused_cause fault refusal status which r h m cause =
       elim which [
@@ -82,9 +82,10 @@ module _ (project : List ℕ) (book : Book) (before between after : State) (idle
         | inr e ↦ subst (HasCauseOf (book_with book fault) before after) (sym e) (left_book book fault between h)
       ]
 
--- no memory was found for the line
-pub unsaid_cause : (book : Book) (fault : RunFault) (before after : State) → HasBook book after (Err fault) → HasCauseOf (book_with book fault) before after Memory
-unsaid_cause book fault before after h = left_book book fault after h
+-- want of memory is told as such
+pub memory_told : (project : List ℕ) (book : Book) (fault : RunFault) (refusal : Refused) (status : Status) → (status ≡ refusal.status) ⊎ (status ≡ Memory) → IsRefusal project book fault refusal → fault ≡ run.Memory → status ≡ Memory
+memory_told project book fault refusal status which r e =
+    elim which [ inl same ↦ same ∙ (subst (λ (f : RunFault). IsRefusal project book f refusal) e r).0 | inr memory ↦ memory ]
 
 -- ---- what the folder showed
 shown_later : (before after : State) → OnlyFaultsRose before after → (fault : InputFault) → IsShownBy before fault → IsShownBy after fault
@@ -217,7 +218,7 @@ module _ (project : List ℕ) (book : Book) (between : State) where
   }
 
   -- the line of a refusal is one that a run may say
-  is_line : (fault : RunFault) (refusal : Refusal) → IsRefusal project (book_with book fault) fault refusal → IsLine project (book_with book fault) (text_of_line refusal.line)
+  is_line : (fault : RunFault) (refusal : Refused) → IsRefusal project (book_with book fault) fault refusal → IsLine project (book_with book fault) (text_of_line refusal.line)
   is_line run.Memory refusal r = inr (inl r.1)
   is_line run.Failed refusal r = inl r.1
   is_line (run.Input fault) refusal r = inr (inr (inl (fault, refl, r.1)))
@@ -234,7 +235,7 @@ module _ (project : List ℕ) (book : Book) (between : State) where
   stop_ends (why.BasisFull phase i j) rose x z h = h
 
   -- the run ended with the status of its refusal
-  ends_so : (rose reason : Type 0) (fault : RunFault) (refusal : Refusal) → IsRefusal project (book_with book fault) fault refusal → HasBook book between (Err fault) → (reason → rose ⊎ (refusal.status ≡ Memory)) →
+  ends_so : (rose reason : Type 0) (fault : RunFault) (refusal : Refused) → IsRefusal project (book_with book fault) fault refusal → HasBook book between (Err fault) → (reason → rose ⊎ (refusal.status ≡ Memory)) →
       (x y z : Desk) → Answers project book (Err fault) x y → SaysLine (text_of_line refusal.line) reason y z → Ends project (book_with book fault) rose refusal.status x z
   ends_so rose reason run.Memory refusal r h up x y z a said =
       subst (λ (s : Status). Ends project book rose s x z) (sym r.0) (runs_out run.Memory (text_of_line refusal.line) reason (is_line run.Memory refusal r) h x y z a said)
@@ -257,7 +258,7 @@ module _ (project : List ℕ) (book : Book) (between : State) where
       }))
 
   -- a refusal, and its line said
-  pub refused_ends : (rose risen : Type 0) (fault : RunFault) (refusal : Refusal) (status : Status) → (status ≡ refusal.status) ⊎ (status ≡ Memory) → (risen → rose) → IsRefusal project (book_with book fault) fault refusal →
+  pub refused_ends : (rose risen : Type 0) (fault : RunFault) (refusal : Refused) (status : Status) → (status ≡ refusal.status) ⊎ (status ≡ Memory) → (risen → rose) → IsRefusal project (book_with book fault) fault refusal →
       HasBook book between (Err fault) → (x y z : Desk) → Answers project book (Err fault) x y → SaysLine (text_of_line refusal.line) (risen ⊎ (status ≡ Memory)) y z → Ends project (book_with book fault) rose status x z
   refused_ends rose risen fault refusal status which up r h x y z a said =
       elim which [

@@ -1,5 +1,5 @@
 -- The one line on the error channel for each refusal that isn't of the input.
-use Rattle.std.specs.Prelude.{◌≡◌, ◌⊎◌, ℕ, suc, List, ◌++◌, Some, codes, decimal, string_bytes}
+use Rattle.std.specs.Prelude.{◌≡◌, ◌⊎◌, ℕ, ◌+◌, List, ◌++◌, Some, codes, decimal, string_bytes}
 use Rattle.std.specs.Fmt.{signed_decimal}
 use Rattle.mk_move.specs.declared.steps.OverflowAt.{OverflowAt}
 use Rattle.mk_project.specs.Lines.{input_line}
@@ -22,7 +22,7 @@ memory_line = codes "markov: out of memory\n"
 -- the column, counted from 1, where `left - times * right` left the range, and the three numbers
 abbrev pub overflow_line : OverflowAt → List ℕ
 overflow_line at =
-    codes "markov: overflow in column " ++ decimal (suc at.column) ++ codes ": " ++ signed_decimal at.left ++ codes " - ("
+    codes "markov: overflow in column " ++ decimal (at.column + 1) ++ codes ": " ++ signed_decimal at.left ++ codes " - ("
     ++ signed_decimal at.times ++ codes ") * (" ++ signed_decimal at.right ++ codes ")\n"
 
 abbrev pub budget_line : ℕ → List ℕ

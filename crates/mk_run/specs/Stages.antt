@@ -24,7 +24,7 @@ use Rattle.mk_run.specs.Runs.{mar_name, IsDone, HasNeither, HasItsStop, HasFaile
 use Rattle.mk_run.specs.Statuses.{status_of}
 use Rattle.mk_run.specs.declared.fault.RunFault.{RunFault}
 use Rattle.mk_run.specs.declared.fault.RunFault.TheVariants.{Memory, Failed, Input, Stopped}
-use Rattle.mk_run.specs.declared.refusal.Refusal.{Refusal}
+use Rattle.mk_run.specs.declared.refusal.Refused.{Refused}
 use Rattle.mk_run.specs.declared.status.Status.TheVariants as ended
 
 -- why a project isn't read, a lattice isn't solved, or an answer isn't written, as a run passes it on
@@ -57,7 +57,7 @@ book_with book Stopped = book
 book_with book Memory = book
 
 -- the status and the line for why a run has no answer
-abbrev pub IsRefusal : List ℕ → Book → RunFault → Refusal → Type 0
+abbrev pub IsRefusal : List ℕ → Book → RunFault → Refused → Type 0
 IsRefusal project book Memory refusal = (refusal.status ≡ ended.Memory) × (text_of_line refusal.line ≡ memory_line)
 IsRefusal project book Failed refusal = (refusal.status ≡ ended.Folder) × (text_of_line refusal.line ≡ folder_line)
 IsRefusal project book (Input fault) refusal = (refusal.status ≡ ended.Input) × (text_of_line refusal.line ≡ input_line project fault)

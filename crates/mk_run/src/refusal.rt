@@ -10,7 +10,7 @@ use std::alloc::{AllocError, Global};
 
 /// How a run ends that is refused, and the line that it says.
 #[derive(Debug, Drop)]
-pub(crate) struct Refusal {
+pub(crate) struct Refused {
     pub(crate) status: Status,
     pub(crate) line: Line,
 }
@@ -21,25 +21,25 @@ pub(crate) fn refusal(
     project: &str,
     book: &RunBook,
     fault: RunFault,
-) -> Result<Refusal, AllocError>
+) -> Result<Refused, AllocError>
     requires { fault ≡ RunFault.Stopped → IsSome book.now.stop }
     ensures { IfOk result (IsRefusal project.now book.now fault) }
 {
     match fault {
-        RunFault::Memory => Ok(Refusal {
+        RunFault::Memory => Ok(Refused {
             status: Status::Memory,
             line: Line::Memory,
         }),
-        RunFault::Failed => Ok(Refusal {
+        RunFault::Failed => Ok(Refused {
             status: Status::Folder,
             line: Line::Folder,
         }),
-        RunFault::Input(fault) => Ok(Refusal {
+        RunFault::Input(fault) => Ok(Refused {
             status: Status::Input,
             line: Line::Made(input_line(alloc, project, fault)?),
         }),
         RunFault::Stopped => match book.stop() {
-            Some(stop) => Ok(Refusal {
+            Some(stop) => Ok(Refused {
                 status: Status::of_stop(stop),
                 line: Line::Made(stop_line(alloc, stop)?),
             }),

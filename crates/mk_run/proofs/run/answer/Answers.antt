@@ -1,41 +1,37 @@
-use Rattle.std.proofs.Common.{◌≡◌, ℕ, List, Ok, Err, Result, sym, subst}
-use Rattle.mk_desk.specs.Folders.{Desk, WhereTold}
+use Rattle.std.proofs.Common.{◌≡◌, Ok, Err, Result, sym, subst}
+use Rattle.mk_desk.specs.Folders.{WhereTold}
 use Rattle.mk_desk.proofs.Loading.{the_error}
 use Rattle.mk_desk.proofs.Telling.{where_told_weaker}
-use Rattle.mk_solve.specs.Books.{Book}
-use Rattle.mk_solve.specs.Solutions.{Solves}
-use Rattle.mk_solve.specs.declared.solving.RunStop.{RunStop}
-use Rattle.mk_solve.specs.declared.solving.RunStop.TheVariants as solve
 use Rattle.mk_input.specs.Readings.{ReadsProject}
-use Rattle.mk_input.specs.declared.problem.Problem.{Problem}
-use Rattle.mk_input.specs.declared.fault.ReadFault.{ReadFault}
-use Rattle.mk_input.specs.declared.fault.ReadFault.TheVariants as read
-use Rattle.mk_run.specs.Runs.{default_budget}
-use Rattle.mk_run.specs.Stages.{Answers, IsBookOf, read_refused, stop_refused}
+use Rattle.mk_run.specs.Stages.{Answers, HasBook, read_refused, stop_refused, write_refused}
 use Rattle.mk_run.specs.declared.fault.RunFault.{RunFault}
-use Rattle.mk_run.specs.declared.fault.RunFault.TheVariants.{Stopped}
-use Rattle.mk_run.proofs.Solved.{empty_is_kept}
-use Rattle.mk_run.proofs.Stops.{read_alone}
+use Rattle.mk_run.proofs.Refusals.{empty_is_few}
+use Rattle.mk_run.proofs.Solved.{unread_book, unsolved_book, unsolved_is_few, solved_is_done, unwritten_book, solving_refused}
 use Rattle.mk_run.proofs.run.answer.Goals as goal
-
--- reading doesn't stop
-not_stopped : (fault : ReadFault) → ¬ (read_refused fault ≡ Stopped)
-not_stopped read.Memory e = cc
-not_stopped read.Failed e = cc
-not_stopped (read.Input fault) e = cc
 
 pub returns-in_err-problem-clause-book : goal.returns-in_err-problem-clause-book
 returns-in_err-problem-clause-book g c =
     let fault = c.in_err-problem.field-0.0 in
-    subst (λ (result : Result Unit RunFault). IsBookOf c.args.book.now result) (sym (the_error c.from_residual.result (read_refused fault) c.from_residual.ensures.1))
-    (empty_is_kept c.args.book.now (read_refused fault) c.requires.book (not_stopped fault))
+    let after = g.F.Folder.state c.read_project.new.folder in
+    subst (λ (result : Result Unit RunFault). HasBook c.args.book.now after result) (sym (the_error c.from_residual.result (read_refused fault) c.from_residual.ensures.1))
+    (unread_book fault c.args.book.now after c.requires.book c.in_err-problem.ensures.shown)
 
--- the lattice was read, and solving it stopped, or memory ran out
-solving_refused : (project : List ℕ) (problem : Problem) (book : Book) (fault : RunStop) → Solves problem.lat problem.grading default_budget (Err fault) book →
-    (x y : Desk) → ReadsProject project (Ok problem) x y → Answers project book (Err (stop_refused fault)) x y
-solving_refused project problem book solve.Memory h x y r = read_alone project book x y r.1
-solving_refused project problem book solve.Stopped (input, settled, (stop, kept, cause)) x y r =
-    ((stop, kept, record { lat = problem.lat; grading = problem.grading; problem = r.0; cause = cause }), r.1)
+pub returns-in_err-problem-clause-settled : goal.returns-in_err-problem-clause-settled
+returns-in_err-problem-clause-settled g c = empty_is_few c.args.book.now c.requires.book
+
+pub returns-in_err-list-clause-book : goal.returns-in_err-list-clause-book
+returns-in_err-list-clause-book g c =
+    let fault = c.in_err-list.field-0.0 in
+    let problem = c.in_ok-problem.problem in
+    let after = g.F.Folder.state c.read_project.new.folder in
+    let book = c.solve_alone.new.book in
+    subst (λ (result : Result Unit RunFault). HasBook book after result) (sym (the_error c.from_residual-in_err-list.result (stop_refused fault) c.from_residual-in_err-list.ensures.1))
+    (unsolved_book problem.lat problem.grading fault book after c.in_ok-problem.ensures.positive c.in_err-list.ensures)
+
+pub returns-in_err-list-clause-settled : goal.returns-in_err-list-clause-settled
+returns-in_err-list-clause-settled g c =
+    let problem = c.in_ok-problem.problem in
+    unsolved_is_few problem.lat problem.grading c.in_err-list.field-0.0 c.solve_alone.new.book c.in_err-list.ensures
 
 pub returns-in_err-list-clause-told : goal.returns-in_err-list-clause-told
 returns-in_err-list-clause-told g c =

@@ -12,4 +12,4 @@ returns c =
     let times : SFits w128 at.times = search rules in
     let right : SFits w128 at.right = search rules in
     in_other_words _ _ _ c.format.ensures.ok
-    (simp (append_assoc, to_z-of_z w128 at.left left, to_z-of_z w128 at.times times, to_z-of_z w128 at.right right) ?)
+    (simp (append_assoc, to_z-of_z w128 at.left left, to_z-of_z w128 at.times times, to_z-of_z w128 at.right right, c.from.ensures))

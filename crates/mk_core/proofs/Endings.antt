@@ -16,7 +16,7 @@ pub pair_given : (ledger after : LedgerView) (pair : Pair) → IsLedger ledger �
 pair_given ledger after pair kept none h e = record {
   goes_on = claim_goes_on ledger after 0 h.claim e;
   basis = e;
-  claims = first_claims ledger.state after.state pair (omega (arith, kept.some, kept.legal.claims_by_workers)) none h.changed;
+  claims = first_claims ledger.state after.state pair (omega (arith, kept.some, kept.legal.claims_by_workers)) none h.claim.no_halt h.changed;
   made = omega (arith, ap (λ s. s.claims_made) h.changed);
   within_budget = h.claim.within_budget;
 }
@@ -26,6 +26,12 @@ pub none_held : (claims : List (Option Pair)) → ((worker : ℕ) → get_or cla
 none_held [] none = refl
 none_held (None ∷ claims) none = none_held claims (λ worker. none (suc worker))
 none_held (Some pair ∷ claims) none = absurd (none-some pair (sym (none 0)))
+
+-- the claim of the first worker is held
+pub some_held : (claims : List (Option Pair)) (pair : Pair) → get_or claims 0 None ≡ Some pair → 0 < claims_held claims
+some_held [] pair e = absurd (none-some pair e)
+some_held (None ∷ claims) pair e = absurd (none-some pair e)
+some_held (Some other ∷ claims) pair e = omega arith
 
 pub ends_over_budget : (ledger after : LedgerView) (made : ℕ) → IsLedger ledger → NoneClaims ledger.state → ledger.state.first_halted ≡ None → ClaimIsOverBudget ledger.state made → after.state ≡ ledger.state → EndsBy after.state OverBudget
 ends_over_budget ledger after made kept none no_halt h e = subst (λ state. EndsBy state OverBudget) (sym e) (no_halt, used_up, (h.pair, h.free))

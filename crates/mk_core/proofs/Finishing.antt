@@ -1,7 +1,8 @@
 -- The phase of a ledger, where every pair is settled, and where the ledger stops.
-use Rattle.std.proofs.Common.{◌≡◌, ℕ, ◌≤◌, [], ◌++◌, length, None, Some, Result, Ok, Err, arith, ap, refl, sym, ◌∙◌, subst, append_assoc}
+use Rattle.std.proofs.Common.{◌≡◌, ◌≢◌, ◌↔◌, inl, inr, ℕ, ◌≤◌, [], ◌++◌, length, Option, None, Some, IfSome, Result, Ok, Err, arith, ap, refl, sym, ◌∙◌, subst, append_assoc}
 use Rattle.std.proofs.lemmas.Option.{none-some, same_Some}
 use Rattle.std.proofs.lemmas.List.{append-nil, length-map}
+use Rattle.std.proofs.lemmas.List.Elements.{All-nil, All-append}
 use Rattle.mk_model.specs.CoreStates.{Pair, pair_of, Halt, CoreState, phase_state, start_of, halt_of, IsPairOf, IsSettled, IsFree}
 use Rattle.mk_model.specs.Events.{HasNormalReduct}
 use Rattle.mk_model.specs.Legal.{IsLegal, IsEnded, IsHaltKept}
@@ -20,7 +21,7 @@ use Rattle.mk_core.specs.declared.phase.Stopped.{Stopped}
 use Rattle.mk_core.specs.declared.phase.Stopped.TheVariants.{Memory, Overflow, OverBudget, BasisFull}
 use Rattle.mk_core.specs.declared.completion.Ending.TheVariants as ending
 use Rattle.mk_core.specs.GoingOn.{ContinuesLedger, EndsBy, IsPhaseOfLedger}
-use Rattle.mk_core.specs.Phases.{state_of, IsPhaseFrom, IsLeft, Finishes, HandsOn, IsCompleted}
+use Rattle.mk_core.specs.Phases.{state_of, phase_in, IsByFirst, IsPhaseFrom, IsLeft, IsHaltedOrWithin, PhaseIsOverBudget, AnswersOverBudget, Finishes, HandsOn, IsCompleted}
 use Rattle.mk_core.proofs.Limits.{legal_raised}
 
 module _ (ledger : LedgerView) (phase : Phase) (same : IsPhaseOfLedger ledger phase) where
@@ -50,6 +51,10 @@ module _ (ledger : LedgerView) (phase : Phase) (same : IsPhaseOfLedger ledger ph
     start = ap start_of (without_workers ledger.state.budget ledger.state.limit);
     more = [];
     journal = same.journal ∙ sym (append-nil ledger.state.journal);
+    by_first = All-nil IsByFirst;
+    thirds = same.thirds;
+    basis_stays = λ e. same.basis;
+    journal_stays = λ e. same.journal;
     legal =
         subst (IsLegal (length ledger.basis.grading) ledger.basis.priority) (sym (without_workers ledger.state.budget ledger.state.limit)) (legal_within ledger.state.budget settled_within);
   }
@@ -78,6 +83,7 @@ module _ (ledger : LedgerView) (phase : Phase) (same : IsPhaseOfLedger ledger ph
   pub completed : IsEnded ledger.state → IsCompleted phase
   completed ended = record {
     basis = subst IsBasis (sym same.basis) same.kept.basis;
+    thirds = same.thirds;
     legal = subst (λ (b : BasisView). IsLegal (length b.grading) b.priority (state_of phase (length phase.journal) 65536)) (sym same.basis) completed_legal;
     ended = phase_ended (length phase.journal) 65536 ended;
   }
@@ -97,10 +103,13 @@ module _ (ledger : LedgerView) (phase : Phase) (same : IsPhaseOfLedger ledger ph
   kept_halt : (halt : KeptHalt) → IsFirstHalt ledger.state (Some halt) → IsHaltKept ledger.state (halt_as halt)
   kept_halt halt (worker, e, f) = same.kept.legal.halts_kept worker (halt_as halt) f
 
+  halt_stands : (halt : KeptHalt) → IsFirstHalt ledger.state (Some halt) → IsHaltedOrWithin ledger (length phase.journal)
+  halt_stands halt (worker, e, f) = inl (λ g. none-some worker (sym g ∙ e))
+
   pub finishes_overflow : (stop : OverflowStop) → IsFirstHalt ledger.state (Some (kept.Overflow stop)) → Finishes ledger (Err (Overflow phase stop))
   finishes_overflow stop h =
       let (free, genuine) = kept_halt (kept.Overflow stop) h in
-      (phase_from, left (stop_of stop).pair free, subst (λ moves. IsGenuineOverflow moves (stop_of stop)) (sym vectors) genuine)
+      (phase_from, left (stop_of stop).pair free, subst (λ moves. IsGenuineOverflow moves (stop_of stop)) (sym vectors) genuine, halt_stands (kept.Overflow stop) h)
 
   pub finishes_full : (i j : ℕ) → IsFirstHalt ledger.state (Some (kept.Full i j)) → Finishes ledger (Err (BasisFull phase i j))
   finishes_full i j h =
@@ -111,6 +120,7 @@ module _ (ledger : LedgerView) (phase : Phase) (same : IsPhaseOfLedger ledger ph
           normal_reduct = subst (λ moves. HasNormalReduct moves (pair_of i j)) (sym vectors) normal;
           left = left (pair_of i j) free;
         },
+        halt_stands (kept.Full i j) h,
       )
 
 -- the first halt is the one that a worker has who halted first
@@ -129,8 +139,35 @@ pub full_handed_on : (state : CoreState) (phase : Phase) (i j : ℕ) → IsFirst
 full_handed_on state phase i j h worker halt e f =
     subst (λ (other : Halt). HandsOn other (Err (BasisFull phase i j))) (sym (first_is state (kept.Full i j) worker halt h e f)) refl
 
+-- ---- the budget is used up exactly where the answer says so
+not_used_up : (ledger : LedgerView) (phase : Phase) → IsHaltedOrWithin ledger (length phase.journal) → PhaseIsOverBudget ledger phase → ⊥
+not_used_up ledger phase (inl e) over = e over.no_halt
+not_used_up ledger phase (inr l) over = omega (arith, l, over.used_up)
+
+pub exactly_over_budget : (ledger : LedgerView) (result : Result Phase Stopped) → Finishes ledger result → IfSome (phase_in result) (λ phase. AnswersOverBudget result ↔ PhaseIsOverBudget ledger phase)
+exactly_over_budget ledger (Ok phase) (from, ended) =
+    (λ h. absurd h, λ over. absurd (over.left.unsettled (ended.all_settled over.pair over.left.of_basis)))
+exactly_over_budget ledger (Err Memory) h = tt
+exactly_over_budget ledger (Err (Overflow phase stop)) (from, left, genuine, within) =
+    (λ h. absurd h, λ over. absurd (not_used_up ledger phase within over))
+exactly_over_budget ledger (Err (OverBudget phase)) (from, over) = (λ h. over, λ h. tt)
+exactly_over_budget ledger (Err (BasisFull phase i j)) (from, full, within) =
+    (λ h. absurd h, λ over. absurd (not_used_up ledger phase within over))
+
 -- ---- what a later ledger finishes with, an earlier one does
 module _ (before after : LedgerView) (g : ContinuesLedger before after) where
+  -- a halt that stood stands
+  stands : before.state.first_halted ≢ None → after.state.first_halted ≢ None
+  stands e = subst (λ (l : LedgerView). l.state.first_halted ≢ None) (sym (g.stays e)) e
+
+  -- no halt stood where none stands later
+  none_before : after.state.first_halted ≡ None → before.state.first_halted ≡ None
+  none_before e = go before.state.first_halted refl
+    where
+      go : (first : Option ℕ) → before.state.first_halted ≡ first → before.state.first_halted ≡ None
+      go None f = f
+      go (Some worker) f = absurd (stands (λ d. none-some worker (sym d ∙ f)) e)
+
   earlier_from : (phase : Phase) → IsPhaseFrom after phase → IsPhaseFrom before phase
   earlier_from phase h = record {
     basis = h.basis;
@@ -140,6 +177,10 @@ module _ (before after : LedgerView) (g : ContinuesLedger before after) where
     start = h.start ∙ g.start;
     more = g.more ++ h.more;
     journal = h.journal ∙ ap (λ j. j ++ h.more) g.journal ∙ append_assoc before.state.journal g.more h.more;
+    by_first = All-append IsByFirst g.more h.more g.by_first h.by_first;
+    thirds = h.thirds;
+    basis_stays = λ e. h.basis_stays (stands e) ∙ ap (λ (l : LedgerView). l.basis) (g.stays e);
+    journal_stays = λ e. h.journal_stays (stands e) ∙ ap (λ (l : LedgerView). l.state.journal) (g.stays e);
     legal = legal;
   }
     where
@@ -150,18 +191,30 @@ module _ (before after : LedgerView) (g : ContinuesLedger before after) where
           (subst (λ budget. IsLegal (length after.basis.grading) after.basis.priority (state_of phase budget before.state.limit)) g.budget
           (subst (λ limit. IsLegal (length after.basis.grading) after.basis.priority (state_of phase after.state.budget limit)) g.limit h.legal)))
 
+  within_earlier : (phase : Phase) → IsPhaseFrom after phase → IsHaltedOrWithin after (length phase.journal) → IsHaltedOrWithin before (length phase.journal)
+  within_earlier phase h (inr l) = inr (omega (arith, l, g.budget))
+  within_earlier phase h (inl e) = subst (IsHaltedOrWithin before) (sym (ap length (h.journal_stays e)) ∙ length-map phase.journal settle_of) (g.halts_within e)
+
   earlier_ended : (phase : Phase) → IsEnded (state_of phase after.state.budget after.state.limit) → IsEnded (state_of phase before.state.budget before.state.limit)
   earlier_ended phase h = record { all_settled = h.all_settled; none_claimed = h.none_claimed }
 
   pub Finishes-earlier : (result : Result Phase Stopped) → Finishes after result → Finishes before result
   Finishes-earlier (Ok phase) (h, ended) = (earlier_from phase h, earlier_ended phase ended)
   Finishes-earlier (Err Memory) h = tt
-  Finishes-earlier (Err (Overflow phase stop)) (h, left, genuine) = (earlier_from phase h, left, genuine)
+  Finishes-earlier (Err (Overflow phase stop)) (h, left, genuine, within) = (earlier_from phase h, left, genuine, within_earlier phase h within)
   Finishes-earlier (Err (OverBudget phase)) (h, over) =
-      (earlier_from phase h, record { used_up = over.used_up ∙ g.budget; no_halt = g.no_halt over.no_halt; pair = over.pair; left = over.left })
-  Finishes-earlier (Err (BasisFull phase i j)) (h, full) =
-      (earlier_from phase h, record { full = full.full ∙ g.limit; normal_reduct = full.normal_reduct; left = full.left })
+      (earlier_from phase h, record { used_up = over.used_up ∙ g.budget; no_halt = none_before over.no_halt; pair = over.pair; left = over.left })
+  Finishes-earlier (Err (BasisFull phase i j)) (h, full, within) =
+      (earlier_from phase h, record { full = full.full ∙ g.limit; normal_reduct = full.normal_reduct; left = full.left }, within_earlier phase h within)
 
-  -- no halt stood where none stands later
+  pub over_budget_earlier : (result : Result Phase Stopped) → Finishes after result → IfSome (phase_in result) (λ phase. AnswersOverBudget result ↔ PhaseIsOverBudget before phase)
+  over_budget_earlier result h = exactly_over_budget before result (Finishes-earlier result h)
+
+  pub first_stays : (worker : ℕ) (halt : Halt) → before.state.first_halted ≡ Some worker → halt_of before.state worker ≡ Some halt →
+      (after.state.first_halted ≡ Some worker) × (halt_of after.state worker ≡ Some halt)
+  first_stays worker halt e f =
+      let same : after ≡ before = g.stays (λ d. none-some worker (sym d ∙ e)) in
+      (ap (λ (l : LedgerView). l.state.first_halted) same ∙ e, ap (λ (l : LedgerView). halt_of l.state worker) same ∙ f)
+
   pub none_stood : (worker : ℕ) → after.state.first_halted ≡ None → before.state.first_halted ≡ Some worker → ⊥
-  none_stood worker e f = none-some worker (sym (g.no_halt e) ∙ f)
+  none_stood worker e f = none-some worker (sym (none_before e) ∙ f)

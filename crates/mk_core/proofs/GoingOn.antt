@@ -1,13 +1,14 @@
 -- What keeps a completion going on: each event of one worker does, and from one ledger to the next and the one after.
-use Rattle.std.proofs.Common.{◌≡◌, ◌≢◌, ◌⊎◌, inl, inr, ℕ, zero, suc, ◌≤◌, ◌<◌, ◌-◌, List, [], ◌∷◌, ◌++◌, length, get_or, set, take, Option, None, Some, ℤ, arith, ap, refl, sym, ◌∙◌, append_assoc}
+use Rattle.std.proofs.Common.{◌≡◌, ◌≢◌, ◌⊎◌, inl, inr, ℕ, zero, suc, ◌≤◌, ◌<◌, ◌-◌, ◌+◌, List, [], ◌∷◌, ◌++◌, length, get_or, set, take, Option, None, Some, ℤ, arith, ap, refl, sym, ◌∙◌, subst, append_assoc}
 use Rattle.std.proofs.lemmas.Bool.{cases_eq}
-use Rattle.std.proofs.lemmas.Option.{none-some}
+use Rattle.std.proofs.lemmas.List.Elements.{All-nil, All-cons, All-append}
 use Rattle.std.proofs.lemmas.List.{append-nil, take-append-le, get_or-set_same, get_or-set_other}
-use Rattle.mk_model.specs.CoreStates.{Pair, Way, settle, Halt, CoreState, claim_of, halt_of, start_of, new_state}
-use Rattle.mk_model.specs.Events.{IsClaim, IsSettling, IsHalting, first_of, with_claim}
+use Rattle.mk_model.specs.CoreStates.{Pair, Way, settle, Halt, CoreState, claim_of, start_of, new_state}
+use Rattle.mk_model.specs.Events.{IsClaim, IsSettling, IsHalting, first_of, given_up, with_claim}
 use Rattle.mk_model.proofs.Journals.{Grows, moves_grow}
 use Rattle.mk_model.proofs.LegalEvents.{cleared_here}
 use Rattle.mk_ledger.specs.Ledgers.{LedgerView}
+use Rattle.mk_core.specs.Phases.{IsByFirst, IsHaltedOrWithin}
 use Rattle.mk_core.specs.GoingOn.{ContinuesLedger, NoneClaims, FirstClaims, IsPairGiven}
 
 pub GoesOn-here : (ledger : LedgerView) → ContinuesLedger ledger ledger
@@ -21,8 +22,9 @@ GoesOn-here ledger = record {
   made = omega arith;
   more = [];
   journal = sym (append-nil ledger.state.journal);
-  no_halt = λ e. e;
-  first_stays = λ worker halt e f. (e, f);
+  by_first = All-nil IsByFirst;
+  stays = λ e. refl;
+  halts_within = λ e. inl e;
 }
 
 pub GoesOn-then : (before middle after : LedgerView) → ContinuesLedger before middle → ContinuesLedger middle after → ContinuesLedger before after
@@ -36,31 +38,55 @@ GoesOn-then before middle after g h = record {
   made = omega (arith, g.made, h.made);
   more = g.more ++ h.more;
   journal = h.journal ∙ ap (λ j. j ++ h.more) g.journal ∙ append_assoc before.state.journal g.more h.more;
-  no_halt = λ e. g.no_halt (h.no_halt e);
-  first_stays = λ worker halt e f. let (d, k) = g.first_stays worker halt e f in h.first_stays worker halt d k;
+  by_first = All-append IsByFirst g.more h.more g.by_first h.by_first;
+  stays = λ e. h.stays (subst (λ (l : LedgerView). l.state.first_halted ≢ None) (sym (g.stays e)) e) ∙ g.stays e;
+  halts_within = λ e. later (h.halts_within e);
 }
+  where
+    earlier : after ≡ middle → IsHaltedOrWithin before (length middle.state.journal) → IsHaltedOrWithin before (length after.state.journal)
+    earlier e within = subst (λ (l : LedgerView). IsHaltedOrWithin before (length l.state.journal)) (sym e) within
+
+    later : IsHaltedOrWithin middle (length after.state.journal) → IsHaltedOrWithin before (length after.state.journal)
+    later (inl e) = earlier (h.stays e) (g.halts_within e)
+    later (inr l) = inr (omega (arith, l, g.budget))
 
 -- ---- each event of a ledger
+-- all but what the workers are at is as it was
+abbrev with_workers : CoreState → List (Option Pair) → ℕ → ℕ → List (Option Halt) → Option ℕ → CoreState
+with_workers state claims made up halts first =
+    record state { claims = claims; claims_made = made; claims_given_up = up; halts = halts; first_halted = first }
+
 module _ (ledger after : LedgerView) where
-  -- a claim leaves all but the claims as they were
-  pub claim_goes_on : (worker : ℕ) → IsClaim ledger.state worker after.state → after.basis ≡ ledger.basis → ContinuesLedger ledger after
-  claim_goes_on worker h e = record {
-    priority = ap (λ b. b.priority) e;
-    grading = ap (λ b. b.grading) e;
-    start_length = ap (λ s. s.start_length) h.changed;
-    start = ap start_of h.changed;
-    budget = ap (λ s. s.budget) h.changed;
-    limit = ap (λ s. s.limit) h.changed;
-    made = omega (arith, ap (λ s. s.claims_made) h.changed);
+  workers_go_on : (claims : List (Option Pair)) (made up : ℕ) (halts : List (Option Halt)) (first : Option ℕ) → after.state ≡ with_workers ledger.state claims made up halts first → after.basis ≡ ledger.basis →
+      ledger.state.first_halted ≡ None → ledger.state.claims_made ≤ made → (after.state.first_halted ≢ None → IsHaltedOrWithin ledger (length after.state.journal)) → ContinuesLedger ledger after
+  workers_go_on claims made up halts first e b no_halt l within = record {
+    priority = ap (λ b. b.priority) b;
+    grading = ap (λ b. b.grading) b;
+    start_length = ap (λ s. s.start_length) e;
+    start = ap start_of e;
+    budget = ap (λ s. s.budget) e;
+    limit = ap (λ s. s.limit) e;
+    made = omega (arith, l, ap (λ s. s.claims_made) e);
     more = [];
-    journal = ap (λ s. s.journal) h.changed ∙ sym (append-nil ledger.state.journal);
-    no_halt = λ f. sym (ap (λ s. s.first_halted) h.changed) ∙ f;
-    first_stays = λ other halt f g. (ap (λ s. s.first_halted) h.changed ∙ f, ap (λ s. halt_of s other) h.changed ∙ g);
+    journal = ap (λ s. s.journal) e ∙ sym (append-nil ledger.state.journal);
+    by_first = All-nil IsByFirst;
+    stays = λ f. absurd (f no_halt);
+    halts_within = within;
   }
 
-  pub settling_goes_on : (n : ℕ) (priority : List ℕ) (worker : ℕ) (way : Way) → ledger.state.start_length ≤ length ledger.state.basis → IsSettling n priority ledger.state worker way after.state →
+  pub claim_goes_on : (worker : ℕ) → IsClaim ledger.state worker after.state → after.basis ≡ ledger.basis → ContinuesLedger ledger after
+  claim_goes_on worker h e =
+      workers_go_on (set ledger.state.claims worker (Some h.pair)) (ledger.state.claims_made + 1) ledger.state.claims_given_up ledger.state.halts ledger.state.first_halted
+      h.changed e h.no_halt (omega arith) (λ f. absurd (f (ap (λ s. s.first_halted) h.changed ∙ h.no_halt)))
+
+  pub halting_goes_on : (halt : Halt) → ledger.state.first_halted ≡ None → length ledger.state.journal < ledger.state.budget → IsHalting ledger.state 0 halt after.state → after.basis ≡ ledger.basis → ContinuesLedger ledger after
+  halting_goes_on halt no_halt within h e =
+      workers_go_on (set ledger.state.claims 0 None) ledger.state.claims_made (ledger.state.claims_given_up + given_up (claim_of ledger.state 0)) (set ledger.state.halts 0 (Some halt)) (first_of ledger.state.first_halted 0)
+      h.changed e no_halt (omega arith) (λ f. inr (omega (arith, within, ap (λ s. length s.journal) h.changed)))
+
+  pub settling_goes_on : (n : ℕ) (priority : List ℕ) (way : Way) → ledger.state.start_length ≤ length ledger.state.basis → ledger.state.first_halted ≡ None → IsSettling n priority ledger.state 0 way after.state →
       after.basis.priority ≡ ledger.basis.priority → after.basis.grading ≡ ledger.basis.grading → ContinuesLedger ledger after
-  settling_goes_on n priority worker way within h p w = record {
+  settling_goes_on n priority way within no_halt h p w = record {
     priority = p;
     grading = w;
     start_length = ap (λ s. s.start_length) h.changed;
@@ -68,10 +94,11 @@ module _ (ledger after : LedgerView) where
     budget = ap (λ s. s.budget) h.changed;
     limit = ap (λ s. s.limit) h.changed;
     made = omega (arith, ap (λ s. s.claims_made) h.changed);
-    more = settle worker h.pair way ∷ [];
+    more = settle 0 h.pair way ∷ [];
     journal = ap (λ s. s.journal) h.changed;
-    no_halt = λ f. sym (ap (λ s. s.first_halted) h.changed) ∙ f;
-    first_stays = λ other halt f g. (ap (λ s. s.first_halted) h.changed ∙ f, ap (λ s. halt_of s other) h.changed ∙ g);
+    by_first = All-cons IsByFirst (settle 0 h.pair way) [] refl (All-nil IsByFirst);
+    stays = λ f. absurd (f no_halt);
+    halts_within = λ f. absurd (f (ap (λ s. s.first_halted) h.changed ∙ no_halt));
   }
     where
       grows : Grows ledger.state.limit ledger.state.basis h.moves
@@ -81,32 +108,11 @@ module _ (ledger after : LedgerView) where
       same_start =
           ap (take ledger.state.start_length) grows.longer ∙ take-append-le ledger.state.start_length ledger.state.basis grows.more within
 
-  pub halting_goes_on : (worker : ℕ) (halt : Halt) → IsHalting ledger.state worker halt after.state → after.basis ≡ ledger.basis → ContinuesLedger ledger after
-  halting_goes_on worker halt h e = record {
-    priority = ap (λ b. b.priority) e;
-    grading = ap (λ b. b.grading) e;
-    start_length = ap (λ s. s.start_length) h.changed;
-    start = ap start_of h.changed;
-    budget = ap (λ s. s.budget) h.changed;
-    limit = ap (λ s. s.limit) h.changed;
-    made = omega (arith, ap (λ s. s.claims_made) h.changed);
-    more = [];
-    journal = ap (λ s. s.journal) h.changed ∙ sym (append-nil ledger.state.journal);
-    no_halt = λ f. none ledger.state.first_halted (sym (ap (λ s. s.first_halted) h.changed) ∙ f);
-    first_stays = λ other kept f g. (ap (λ s. s.first_halted) h.changed ∙ ap (λ o. first_of o worker) f, ap (λ s. halt_of s other) h.changed ∙ get_or-set_other ledger.state.halts worker other (Some halt) None (apart other kept g) ∙ g);
-  }
-    where
-      none : (first : Option ℕ) → first_of first worker ≡ None → first ≡ None
-      none None f = refl
-      none (Some other) f = absurd (none-some other (sym f))
-
-      apart : (other : ℕ) (kept : Halt) → halt_of ledger.state other ≡ Some kept → other ≢ worker
-      apart other kept g d = none-some kept (sym h.no_halt ∙ ap (λ k. halt_of ledger.state k) (sym d) ∙ g)
-
 -- ---- who has a claim
 -- where no worker had one, the first has the pair that it is given
-pub first_claims : (state after : CoreState) (pair : Pair) → 0 < length state.claims → NoneClaims state → after ≡ with_claim state 0 pair → FirstClaims after pair
-first_claims state after pair l none e = record {
+pub first_claims : (state after : CoreState) (pair : Pair) → 0 < length state.claims → NoneClaims state → state.first_halted ≡ None → after ≡ with_claim state 0 pair → FirstClaims after pair
+first_claims state after pair l none no_halt e = record {
+  no_halt = ap (λ s. s.first_halted) e ∙ no_halt;
   claimed = ap (λ s. claim_of s 0) e ∙ get_or-set_same state.claims 0 (Some pair) None l;
   others = λ worker d. ap (λ s. claim_of s worker) e ∙ get_or-set_other state.claims 0 worker (Some pair) None d ∙ none worker;
 }

@@ -17,10 +17,11 @@ use Rattle.mk_reduce.specs.Leads.{leads_of}
 use Rattle.mk_reduce.specs.Works.{IsRest}
 use Rattle.mk_ledger.specs.Ledgers.{LedgerView, IsLedger}
 use Rattle.mk_ledger.specs.Settlings.{IsZeroClaim, IsReductOfClaim, IsPlacing}
-use Rattle.mk_ledger.specs.declared.settles.PlaceFault.TheVariants.{BasisFull}
+use Rattle.mk_ledger.specs.declared.ledger.PlaceFault.TheVariants.{BasisFull}
 use Rattle.mk_core.specs.GoingOn.{FirstClaims, GoesOnUnclaimed}
 use Rattle.mk_core.specs.Remainders.{IsNormalRest}
 use Rattle.mk_core.proofs.Leads.{leads_more, first_leads_columns}
+use Rattle.mk_core.proofs.Endings.{some_held}
 use Rattle.mk_core.proofs.GoingOn.{settling_goes_on, halting_goes_on, none_claims}
 
 -- ---- what is left, oriented
@@ -76,15 +77,19 @@ module _ (ledger : LedgerView) (kept : IsLedger ledger) where
 
   -- ---- what is then
   module _ (after : LedgerView) (pair : Pair) (claims : FirstClaims ledger.state pair) where
+    -- the claim is one more than the pairs that are settled
+    one_left : length ledger.state.journal < ledger.state.budget
+    one_left = omega (arith, kept.legal.claims_counted, kept.legal.claims_within, some_held ledger.state.claims pair claims.claimed)
+
     pub settling_unclaimed : (n : ℕ) (priority : List ℕ) (way : Way) → IsSettling n priority ledger.state 0 way after.state → after.basis.priority ≡ ledger.basis.priority → after.basis.grading ≡ ledger.basis.grading → GoesOnUnclaimed ledger after
     settling_unclaimed n priority way h p w = record {
-      goes_on = settling_goes_on ledger after n priority 0 way kept.legal.start_within h p w;
+      goes_on = settling_goes_on ledger after n priority way kept.legal.start_within claims.no_halt h p w;
       unclaimed = none_claims ledger.state after.state pair claims (ap (λ s. s.claims) h.changed);
     }
 
     pub halting_unclaimed : (halt : Halt) → IsHalting ledger.state 0 halt after.state → after.basis ≡ ledger.basis → GoesOnUnclaimed ledger after
     halting_unclaimed halt h e = record {
-      goes_on = halting_goes_on ledger after 0 halt h e;
+      goes_on = halting_goes_on ledger after halt claims.no_halt one_left h e;
       unclaimed = none_claims ledger.state after.state pair claims (ap (λ s. s.claims) h.changed);
     }
 

@@ -1,15 +1,17 @@
 -- How a completion by one worker goes on from a ledger to a later one, and where it ends.
-use Rattle.std.specs.Prelude.{◌≡◌, ◌≢◌, ℕ, ◌≤◌, ◌<◌, List, ◌++◌, length, None, Some}
-use Rattle.mk_model.specs.CoreStates.{Pair, Settle, Halt, CoreState, claim_of, halt_of, start_of, IsFree}
+use Rattle.std.specs.Prelude.{◌≡◌, ◌≢◌, ℕ, ◌≤◌, ◌<◌, List, ◌++◌, length, All, None, Some}
+use Rattle.mk_model.specs.CoreStates.{Pair, Settle, CoreState, claim_of, start_of, IsFree}
 use Rattle.mk_model.specs.Legal.{IsEnded}
-use Rattle.mk_ledger.specs.Entries.{settles_of}
+use Rattle.mk_ledger.specs.Entries.{settles_of, HaveTheirThirds}
 use Rattle.mk_ledger.specs.Ledgers.{LedgerView, IsLedger}
 use Rattle.mk_core.specs.declared.phase.Phase.{Phase}
+use Rattle.mk_core.specs.Phases.{IsByFirst, IsHaltedOrWithin}
 use Rattle.mk_core.specs.declared.completion.Ending.{Ending}
 use Rattle.mk_core.specs.declared.completion.Ending.TheVariants.{Ended, OverBudget, Halted}
 
--- The later ledger has the same list, grading, start, budget and limit, and no fewer claims were made; its journal begins
--- with the earlier one's; and the first halt stays.
+-- The later ledger has the same list, grading, start, budget and limit, and no fewer claims were made; its journal goes on
+-- from the earlier one's with entries of the first worker. Where a halt stood, all is as before; where one stands that is
+-- new, fewer pairs are settled than the budget has.
 pub record ContinuesLedger (before after : LedgerView) : Type 0 where
   pub priority : after.basis.priority ≡ before.basis.priority
   pub grading : after.basis.grading ≡ before.basis.grading
@@ -20,16 +22,17 @@ pub record ContinuesLedger (before after : LedgerView) : Type 0 where
   pub made : before.state.claims_made ≤ after.state.claims_made
   pub more : List Settle
   pub journal : after.state.journal ≡ before.state.journal ++ more
-  pub no_halt : after.state.first_halted ≡ None → before.state.first_halted ≡ None
-  pub first_stays : (worker : ℕ) (halt : Halt) → before.state.first_halted ≡ Some worker → halt_of before.state worker ≡ Some halt →
-      (after.state.first_halted ≡ Some worker) × (halt_of after.state worker ≡ Some halt)
+  pub by_first : All IsByFirst more
+  pub stays : before.state.first_halted ≢ None → after ≡ before
+  pub halts_within : after.state.first_halted ≢ None → IsHaltedOrWithin before (length after.state.journal)
 
 -- no worker has a claim
 abbrev pub NoneClaims : CoreState → Type 0
 NoneClaims state = (worker : ℕ) → claim_of state worker ≡ None
 
--- the pair is the claim of the first worker, and no other has one
+-- the pair is the claim of the first worker, no other has one, and no halt stands
 pub record FirstClaims (state : CoreState) (pair : Pair) : Type 0 where
+  pub no_halt : state.first_halted ≡ None
   pub claimed : claim_of state 0 ≡ Some pair
   pub others : (worker : ℕ) → ¬ (worker ≡ 0) → claim_of state worker ≡ None
 
@@ -57,4 +60,5 @@ pub record IsPhaseOfLedger (ledger : LedgerView) (phase : Phase) : Type 0 where
   pub start_length : phase.start_len ≡ ledger.state.start_length
   pub basis : phase.basis ≡ ledger.basis
   pub journal : settles_of phase.journal ≡ ledger.state.journal
+  pub thirds : HaveTheirThirds phase.journal
   pub kept : IsLedger ledger

@@ -1,18 +1,19 @@
 //! Completion by one worker: pair after pair is claimed, its difference reduced, and the pair settled.
 
-ghost use Rattle.std.specs.Prelude.{◌≡◌, ◌≢◌, ◌≤◌, ◌<◌, ℕ, length, None, Some, Ok, Err, IfOk, IfErr, OnOk, OnErr};
-ghost use Rattle.mk_model.specs.CoreStates.{Halt, pair_of, claim_of, halt_of};
+ghost use Rattle.std.specs.Prelude.{◌≡◌, ◌≢◌, ◌↔◌, IfSome, ◌≤◌, ◌<◌, ℕ, length, None, Some, Ok, Err, IfOk, IfErr, OnOk, OnErr};
+ghost use Rattle.mk_model.specs.CoreStates.{Halt as CoreHalt, pair_of, claim_of, halt_of};
 ghost use Rattle.mk_model.specs.Legal.{IsEnded};
 ghost use Rattle.mk_move.specs.MoveLists.{vectors_of};
+ghost use Rattle.mk_ledger.specs.FirstHalts.{IsFirstHalt};
 ghost use Rattle.mk_reduce.specs.Leads.{leads_of};
 ghost use Rattle.mk_core.specs.GoingOn.{ContinuesLedger, GoesOnUnclaimed, IsPairGiven, NoneClaims, FirstClaims, EndsBy, IsPhaseOfLedger};
-ghost use Rattle.mk_core.specs.Phases.{ledger_for, Finishes, HandsOn};
+ghost use Rattle.mk_core.specs.Phases.{ledger_for, phase_in, Finishes, AnswersOverBudget, PhaseIsOverBudget, HandsOn};
 ghost use Rattle.mk_core.specs.Remainders.{IsRemainderOfClaim};
 
 use crate::completed::Completed;
 use crate::phase::{Job, Phase, Stopped};
 use crate::work::{WorkFault, work_on};
-use mk_ledger::{Claim, Ledger, LedgerParts, PlaceFault};
+use mk_ledger::{Claim, Halt, Ledger, LedgerParts, PlaceFault};
 use mk_model::NoMemory;
 use mk_move::{Basis, Finder, Move};
 use mk_reduce::PlainFinder;
@@ -28,7 +29,8 @@ use std::alloc::Global;
 pub fn complete_alone(alloc: Global, job: Job) -> Result<Completed, Stopped>
     requires start { length job.start.moves ≤ job.basis_limit }
     requires limit { job.basis_limit ≤ 65536 }
-    ensures { Finishes (ledger_for job) result }
+    ensures answer { Finishes (ledger_for job) result }
+    ensures over_budget { IfSome (phase_in result) (λ phase. AnswersOverBudget result ↔ PhaseIsOverBudget (ledger_for job) phase) }
 {
     let Job {
         start,
@@ -44,7 +46,8 @@ pub fn complete_alone(alloc: Global, job: Job) -> Result<Completed, Stopped>
 pub fn finish_alone(alloc: Global, mut ledger: Ledger) -> Result<Completed, Stopped>
     requires unclaimed { (worker : ℕ) → claim_of ledger.state worker ≡ None }
     ensures answer { Finishes ledger result }
-    ensures halted { (worker : ℕ) (halt : Halt) → ledger.state.first_halted ≡ Some worker → halt_of ledger.state worker ≡ Some halt → HandsOn halt result }
+    ensures over_budget { IfSome (phase_in result) (λ phase. AnswersOverBudget result ↔ PhaseIsOverBudget ledger phase) }
+    ensures halted { (worker : ℕ) (halt : CoreHalt) → ledger.state.first_halted ≡ Some worker → halt_of ledger.state worker ≡ Some halt → HandsOn halt result }
 {
     let mut finder = finder_of(alloc, ledger.basis())?;
     match settle_pairs(alloc, &mut ledger, &mut finder)? {
@@ -127,7 +130,7 @@ fn settle_pair(
         Ok(Some(remainder)) => place_remainder(ledger, finder, remainder),
         Ok(None) => ledger.settle_zero(0),
         Err(WorkFault::Overflow(stop)) => {
-            ledger.halt(0, mk_ledger::Halt::Overflow(stop));
+            ledger.halt(0, Halt::Overflow(stop));
             Ok(())
         }
         Err(WorkFault::Memory) => Err(NoMemory),
@@ -160,7 +163,8 @@ fn ended(ledger: Ledger) -> Completed
     requires { IsEnded ledger.state }
     ensures { Finishes ledger (Ok result) }
 {
-    Completed::of_phase(phase_of(ledger))
+    let (phase, _) = phase_of(ledger);
+    Completed::of_phase(phase)
 }
 
 /// Why a ledger stops in which as many pairs are settled as the budget has.
@@ -168,33 +172,14 @@ fn over_budget(ledger: Ledger) -> Stopped
     requires { EndsBy ledger.state Ending.OverBudget }
     ensures { Finishes ledger (Err result) }
 {
-    Stopped::OverBudget {
-        phase: phase_of(ledger),
-    }
+    let (phase, _) = phase_of(ledger);
+    Stopped::OverBudget { phase }
 }
 
-/// What a ledger has done.
-fn phase_of(ledger: Ledger) -> Phase
-    ensures { IsPhaseOfLedger ledger result }
-{
-    let LedgerParts {
-        start_len,
-        basis,
-        journal,
-        ..
-    } = ledger.into_parts();
-    Phase {
-        start_len,
-        basis,
-        journal,
-    }
-}
-
-/// Why a ledger stops in which a halt stands.
-fn stopped_by(ledger: Ledger) -> Stopped
-    requires { EndsBy ledger.state Ending.Halted }
-    ensures answer { Finishes ledger (Err result) }
-    ensures halted { (worker : ℕ) (halt : Halt) → ledger.state.first_halted ≡ Some worker → halt_of ledger.state worker ≡ Some halt → HandsOn halt (Err result) }
+/// What a ledger has done, and the halt of the worker that halted first.
+fn phase_of(ledger: Ledger) -> (Phase, Option<Halt>)
+    ensures phase { IsPhaseOfLedger ledger result.0 }
+    ensures halt { IsFirstHalt ledger.state result.1 }
 {
     let LedgerParts {
         start_len,
@@ -207,10 +192,20 @@ fn stopped_by(ledger: Ledger) -> Stopped
         basis,
         journal,
     };
+    (phase, first_halt)
+}
+
+/// Why a ledger stops in which a halt stands.
+fn stopped_by(ledger: Ledger) -> Stopped
+    requires { EndsBy ledger.state Ending.Halted }
+    ensures answer { Finishes ledger (Err result) }
+    ensures halted { (worker : ℕ) (halt : CoreHalt) → ledger.state.first_halted ≡ Some worker → halt_of ledger.state worker ≡ Some halt → HandsOn halt (Err result) }
+{
+    let (phase, first_halt) = phase_of(ledger);
     match first_halt {
-        Some(mk_ledger::Halt::Overflow(stop)) => Stopped::Overflow { phase, stop },
-        Some(mk_ledger::Halt::Full { i, j }) => Stopped::BasisFull { phase, i, j },
-        Some(mk_ledger::Halt::Memory) => Stopped::Memory,
+        Some(Halt::Overflow(stop)) => Stopped::Overflow { phase, stop },
+        Some(Halt::Full { i, j }) => Stopped::BasisFull { phase, i, j },
+        Some(Halt::Memory) => Stopped::Memory,
         None => unreachable!(),
     }
 }

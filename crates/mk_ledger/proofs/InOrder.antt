@@ -10,7 +10,7 @@ use Rattle.mk_model.proofs.LegalEvents.{written}
 use Rattle.mk_ledger.specs.PairFlags.{pairs_of, pair_number}
 use Rattle.mk_ledger.specs.Ledgers.{number_of, AreFlagged, AreAllTaken, IsOneLeft, AreInOrder}
 use Rattle.mk_ledger.specs.Claims.{IsNotYet, ClaimIsOverBudget}
-use Rattle.mk_ledger.proofs.PairNumbers.{pairs_of_more, pairs_of_none, number_below, number_of_less, number_of_one}
+use Rattle.mk_ledger.proofs.PairNumbers.{pairs_of_more, pairs_of_none, number_below, number_of_less, same_pair}
 
 -- each number below the count of pairs is that of a pair
 pub record HasNumber (moves number : ℕ) : Type 0 where
@@ -43,12 +43,6 @@ pair_of_number (suc moves) number l = go (pair_of_number moves number) (cases_lt
 pub lesser_number : (moves : List (List ℤ)) (p q : Pair) → IsPairOf moves p → IsPairOf moves q → IsLesser p q → number_of p < number_of q
 lesser_number moves p q h k (inl l) = number_of_less p.first p.second q.first q.second h.ordered l
 lesser_number moves p q h k (inr (e, l)) = omega (arith, l, ap pairs_of e)
-
--- two pairs of one number are one pair
-pub same_pair : (p q : Pair) → p.first < p.second → q.first < q.second → number_of p ≡ number_of q → p ≡ q
-same_pair p q h k e =
-    let (f, g) = number_of_one p.first p.second q.first q.second h k e in
-    ap (λ i. pair_of i p.second) f ∙ ap (λ j. pair_of q.first j) g
 
 -- ---- where no halt stands
 module _ {state : CoreState} (order : AreInOrder state) where

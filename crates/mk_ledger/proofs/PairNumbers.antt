@@ -2,7 +2,9 @@
 use Rattle.std.proofs.Common.{◌≡◌, ◌⊎◌, inl, inr, ℕ, zero, suc, ◌+◌, ◌-◌, ◌*◌, ◌/◌, ◌<◌, ◌≤◌, arith, refl, sym, ap, ◌∙◌, subst}
 use Rattle.std.proofs.Math.Nat.{add-mul-div_right}
 use Rattle.std.proofs.lemmas.Bool.{cases_lt, cases_order}
+use Rattle.mk_model.specs.CoreStates.{Pair, pair_of}
 use Rattle.mk_ledger.specs.PairFlags.{pairs_of, pair_number}
+use Rattle.mk_ledger.specs.Ledgers.{number_of}
 
 product_more : (m : ℕ) → (m + 1) * (m + 1 - 1) ≡ m * (m - 1) + m * 2
 product_more zero = refl
@@ -48,6 +50,12 @@ number_of_one i j k l h g e = go (cases_order j l)
     go (inr (inl f)) = absurd (omega (arith, number_of_less i j k l h f))
     go (inl f) = (omega (arith, ap pairs_of f), f)
     go (inr (inr f)) = absurd (omega (arith, number_of_less k l i j g f))
+
+-- two pairs of one number are one pair
+pub same_pair : (p q : Pair) → p.first < p.second → q.first < q.second → number_of p ≡ number_of q → p ≡ q
+same_pair p q h k e =
+    let (f, g) = number_of_one p.first p.second q.first q.second h k e in
+    ap (λ i. pair_of i p.second) f ∙ ap (λ j. pair_of q.first j) g
 
 -- the number of a pair tells whether its places are below a count
 pub within_by_number : (i j m : ℕ) → i < j → pair_number i j < pairs_of m → j < m

@@ -10,13 +10,7 @@ use Rattle.mk_model.proofs.Journals.{settled_more, settled_cases}
 use Rattle.mk_model.proofs.LegalEvents.{cleared}
 use Rattle.mk_ledger.specs.PairFlags.{pairs_of}
 use Rattle.mk_ledger.specs.Ledgers.{number_of, AreFlagged, AreAllTaken, IsOneLeft, AreInOrder}
-use Rattle.mk_ledger.proofs.PairNumbers.{pairs_of_more, pairs_of_least, number_below, number_of_one, within_by_number}
-
--- one number is that of one pair
-pub same_pair : (p q : Pair) → p.first < p.second → q.first < q.second → number_of p ≡ number_of q → p ≡ q
-same_pair p q h g e =
-    let (f, k) = number_of_one p.first p.second q.first q.second h g e in
-    ap (λ i. record { first = i; second = p.second }) f ∙ ap (λ j. record { first = q.first; second = j }) k
+use Rattle.mk_ledger.proofs.PairNumbers.{pairs_of_more, pairs_of_least, number_below, same_pair, within_by_number}
 
 -- the number of a pair is below the count of pairs
 pub pair_below : (moves : List (List ℤ)) (p : Pair) → IsPairOf moves p → number_of p < pairs_of (length moves)

@@ -3,8 +3,8 @@ use Rattle.std.specs.Prelude.{◌≡◌, ℕ, None, Some}
 use Rattle.mk_model.specs.CoreStates.{Pair, pair_of, CoreState, claim_of, IsPairOf, IsLesser, IsSettled, IsFree}
 use Rattle.mk_model.specs.Events.{IsClaim, with_claim}
 use Rattle.mk_model.specs.Legal.{IsEnded}
-use Rattle.mk_ledger.specs.declared.claim.Claim.{Claim}
-use Rattle.mk_ledger.specs.declared.claim.Claim.TheVariants.{Claimed, NotYet, Ended, OverBudget, Stopped}
+use Rattle.mk_ledger.specs.declared.claims.Claim.{Claim}
+use Rattle.mk_ledger.specs.declared.claims.Claim.TheVariants.{Claimed, NotYet, Ended, OverBudget, Stopped}
 
 -- Each unsettled pair is claimed, and this is the least of them, of this worker.
 pub record IsNotYet (state : CoreState) (holder : ℕ) (pair : Pair) : Type 0 where

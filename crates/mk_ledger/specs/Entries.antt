@@ -1,5 +1,5 @@
 -- The entries of a journal as what was settled.
-use Rattle.std.specs.Prelude.{ℕ, List, map}
+use Rattle.std.specs.Prelude.{◌≡◌, ℕ, List, map, All}
 use Rattle.mk_model.specs.CoreStates.{pair_of, Way, Settle, settle}
 use Rattle.mk_model.specs.CoreStates.Way.{Coprime, Chain, Zero, Place}
 use Rattle.mk_ledger.specs.declared.journal.JournalEntry.{JournalEntry}
@@ -20,3 +20,18 @@ settle_of entry = settle entry.worker (pair_of entry.i entry.j) (way_of entry.ki
 -- the entries as what was settled
 abbrev pub settles_of : List JournalEntry → List Settle
 settles_of entries = map settle_of entries
+
+-- the third move or the new place of a way, and 0 where it has neither
+abbrev pub third_of : Way → ℕ
+third_of Coprime = 0
+third_of (Chain third) = third
+third_of Zero = 0
+third_of (Place place) = place
+
+-- the third of an entry is that of its way
+abbrev pub HasItsThird : JournalEntry → Type 0
+HasItsThird entry = entry.third ≡ third_of (settle_of entry).way
+
+-- the third of each entry is that of its way
+abbrev pub HaveTheirThirds : List JournalEntry → Type 0
+HaveTheirThirds entries = All HasItsThird entries

@@ -8,8 +8,8 @@ use Rattle.mk_model.specs.CoreStates.Halt.{Overflow, Full, Memory}
 use Rattle.mk_model.specs.Events.{IsSettling, IsFull, IsHalting}
 use Rattle.mk_move.specs.Moves.{Weighed}
 use Rattle.mk_move.specs.MoveLists.{BasisView}
-use Rattle.mk_ledger.specs.declared.settles.PlaceFault.{PlaceFault}
-use Rattle.mk_ledger.specs.declared.settles.PlaceFault.TheVariants as fault
+use Rattle.mk_ledger.specs.declared.ledger.PlaceFault.{PlaceFault}
+use Rattle.mk_ledger.specs.declared.ledger.PlaceFault.TheVariants as fault
 use Rattle.mk_ledger.specs.PairFlags.{PairFlags, pairs_of}
 use Rattle.mk_ledger.specs.Ledgers.{LedgerView}
 

@@ -1,7 +1,7 @@
 ghost use Rattle.std.specs.Prelude.{◌≡◌, ℕ, ◌+◌, ◌-◌, ◌<◌, ◌≤◌, ◌++◌, [], true, false, length, take, replicate, IfOk, OnOk, OnErr, slice_index_or, slice_set};
 ghost use Rattle.mk_ledger.specs.PairFlags.{pairs_of, pair_number};
 
-use crate::numbers::{pair_number, pairs_of};
+use crate::pairs::{pair_number, pairs_of};
 use mk_model::NoMemory;
 use std::alloc::Global;
 use std::marker::Model;

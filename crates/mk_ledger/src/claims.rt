@@ -4,59 +4,38 @@ ghost use Rattle.mk_ledger.specs.PairFlags.{pairs_of};
 ghost use Rattle.mk_ledger.specs.Claims.{AnswersClaim};
 ghost use Rattle.mk_ledger.specs.HeldClaims.{MayClaim, NoneHeld, IsLeastOf};
 
-use crate::claim::Claim;
-use crate::held::Held;
-use crate::ledger::Ledger;
+use std::marker::Model;
 
-impl Ledger {
-    /// Answers a worker that asks for a pair and has none. Where no worker has halted, a pair is free and the budget isn't
-    /// used up, the least free pair is its claim from now on. It allocates nothing.
-    pub fn claim(&mut self, worker: u32) -> Claim
-        requires within { worker < self.old.state.workers }
-        requires idle { claim_of self.old.state worker ≡ None }
-        ensures answered { AnswersClaim self.old.state worker result self.new.state }
-        ensures basis { self.new.basis ≡ self.old.basis }
-    {
-        if let Some(other) = self.first {
-            return Claim::Stopped { worker: other };
-        }
-        if !self.next.is_within(self.basis.len()) {
-            return self.none_left();
-        }
-        let made = self.next.number();
-        if made >= self.budget {
-            return Claim::OverBudget { made };
-        }
-        self.give(worker)
-    }
+/// What a worker is answered that asks for a pair.
+#[derive(Clone, Copy, Debug, PartialEq, Eq)]
+pub enum Claim {
+    /// The least pair that is neither settled nor claimed.
+    Claimed { i: u32, j: u32 },
+    /// Each unsettled pair is claimed: the least of them, and its worker.
+    NotYet { worker: u32, i: u32, j: u32 },
+    /// Every pair is settled.
+    Ended,
+    /// A pair is free, and as many claims were made as the budget has.
+    OverBudget { made: u64 },
+    /// A worker halted: the first that did.
+    Stopped { worker: u32 },
+}
 
-    /// The answer where no worker has halted and every pair was claimed.
-    fn none_left(&self) -> Claim
-        requires no_halt { self.now.state.first_halted ≡ None }
-        requires all { pairs_of (length self.now.state.basis) ≤ self.now.state.claims_made }
-        ensures { (worker : ℕ) → AnswersClaim self.now.state worker result self.now.state }
-    {
-        match least_claim(&self.claims) {
-            Some((worker, held)) => Claim::NotYet {
-                worker,
-                i: held.i,
-                j: held.j,
-            },
-            None => Claim::Ended,
-        }
-    }
+/// The pair that a worker has claimed: two places, the lesser first.
+#[derive(Clone, Copy, Debug, Drop)]
+pub(crate) struct Held {
+    pub(crate) i: u32,
+    pub(crate) j: u32,
+}
 
-    /// Gives the worker the next pair in their order, which is the least free one.
-    fn give(&mut self, worker: u32) -> Claim
-        requires { MayClaim self.old.state worker }
-        ensures answered { AnswersClaim self.old.state worker result self.new.state }
-        ensures basis { self.new.basis ≡ self.old.basis }
-    {
-        let (i, j) = self.next.pair();
-        self.claims[worker as usize] = Some(Held { i, j });
-        self.next.advance();
-        Claim::Claimed { i, j }
-    }
+impl Model for Held {
+    ghost use Rattle.mk_model.specs.CoreStates.{Pair, pair_of};
+
+    ghost Value = { Pair };
+
+    ghost view = { λ h. pair_of h.i h.j };
+
+    ghost inverse = { λ p. record { i = p.first; j = p.second } };
 }
 
 /// Whether the first pair comes before the other: by its second place, then by its first.
@@ -101,7 +80,7 @@ pub(crate) fn none_held(claims: &[Option<Held>]) -> bool
 }
 
 /// The least of the claims with its worker, or none where no worker has a claim.
-fn least_claim(claims: &[Option<Held>]) -> Option<(u32, Held)>
+pub(crate) fn least_claim(claims: &[Option<Held>]) -> Option<(u32, Held)>
     requires { length claims.now ≤ 64 }
     ensures { IsLeastOf claims.now (length claims.now) result }
 {

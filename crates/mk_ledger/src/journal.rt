@@ -1,4 +1,5 @@
 ghost use Rattle.std.specs.Prelude.{◌≡◌, ◌-◌, ◌<◌, ◌++◌, [], ◌∷◌, length, take, OnOk, OnErr, slice_get};
+ghost use Rattle.mk_ledger.specs.Entries.{HasItsThird, HaveTheirThirds};
 
 use mk_model::NoMemory;
 use std::alloc::Global;
@@ -25,7 +26,7 @@ pub struct JournalEntry {
     pub kind: Kind,
 }
 
-/// What was settled, in its order: fewer than 2^63 entries.
+/// What was settled, in its order: fewer than 2^63 entries. The third of an entry for Zero or Coprime is 0.
 #[derive(Debug, Drop)]
 pub struct Journal {
     entries: Vec<JournalEntry>,
@@ -37,7 +38,11 @@ impl Model for Journal {
 
     ghost Value = { List JournalEntry };
 
+    ghost use Rattle.mk_ledger.specs.Entries.{HaveTheirThirds};
+
     ghost view = { λ j. j.entries.items };
+
+    ghost invariant = { λ j. HaveTheirThirds j.entries.items };
 }
 
 impl Journal {
@@ -52,6 +57,7 @@ impl Journal {
 
     /// Puts an entry at the end. After a refusal the journal is as before.
     pub fn push(&mut self, entry: JournalEntry) -> Result<(), NoMemory>
+        requires { HasItsThird entry }
         ensures ok { OnOk result (self.new ≡ self.old ++ entry ∷ []) }
         ensures err { OnErr result (self.new ≡ self.old) }
     {
@@ -69,7 +75,8 @@ impl Journal {
 
     /// How many entries it has.
     pub fn len(&self) -> u64
-        ensures { result ≡ length self.now }
+        ensures value { result ≡ length self.now }
+        ensures thirds { HaveTheirThirds self.now }
     {
         self.entries.len() as u64
     }
@@ -77,7 +84,8 @@ impl Journal {
     /// The entry of a place.
     pub fn entry_at(&self, n: u64) -> JournalEntry
         requires { n < length self.now }
-        ensures { slice_get self.now n ≡ Some result }
+        ensures value { slice_get self.now n ≡ Some result }
+        ensures third { HasItsThird result }
     {
         self.entries[n as usize]
     }

@@ -1,32 +1,44 @@
-ghost use Rattle.std.specs.Prelude.{◌≡◌, ◌≤◌, ◌<◌, ◌↔◌, IsTrue, MatchOption, length, slice_get, Some, None};
-ghost use Rattle.mk_model.specs.CoreStates.{pair_of, claim_of, halt_of};
-ghost use Rattle.mk_ledger.specs.Entries.{settle_of};
+ghost use Rattle.std.specs.Prelude.{◌≡◌, ◌≤◌, ◌<◌, ◌↔◌, IsTrue, MatchOption, length, slice_get, Some, None, replicate, IfOk, ◌≢◌, ℕ, ◌+◌, [], ◌∷◌, ◌++◌, false, IsSome, IfErr, OnOk, OnErr, IfSome};
+ghost use Rattle.mk_model.specs.CoreStates.{pair_of, claim_of, halt_of, new_state, IsLesser, settle, IsPairOf};
+ghost use Rattle.mk_ledger.specs.Entries.{settle_of, way_of, settles_of, third_of, HasItsThird, HaveTheirThirds};
 ghost use Rattle.mk_ledger.specs.Ledgers.{IsLedger};
+ghost use Rattle.mk_move.specs.MoveLists.{vectors_of, BelongsTo};
+ghost use Rattle.mk_model.specs.Events.{AreSettled, IsSettling, IsHaltCause, IsHalting};
+ghost use Rattle.mk_model.specs.Legal.{IsEnded};
+ghost use Rattle.mk_ledger.specs.FirstHalts.{IsFirstHalt, IsHaltOf};
+ghost use Rattle.mk_ledger.specs.PairFlags.{pairs_of};
+ghost use Rattle.mk_ledger.specs.Claims.{AnswersClaim};
+ghost use Rattle.mk_ledger.specs.HeldClaims.{MayClaim, NoneHeld, IsLeastOf};
+ghost use Rattle.mk_model.specs.CoreStates.Way.{Zero};
+ghost use Rattle.mk_ledger.specs.Settlings.{IsZeroClaim, IsReductOfClaim, IsFullClaim, IsPlacing, HaltsFull, AreSmall, AreFlagsOf, IsGrown, NotFull};
+ghost use Rattle.mk_ledger.specs.Halts.{halt_as};
 
 use crate::bits::SettledBits;
-use crate::frontier::Frontier;
+use crate::claims::{Claim, Held, least_claim, none_held};
 use crate::halt::{Halt, KeptHalt};
-use crate::held::Held;
-use crate::journal::{Journal, JournalEntry};
-use mk_move::Basis;
+use crate::journal::{Journal, JournalEntry, Kind};
+use crate::pairs::Frontier;
+use mk_model::NoMemory;
+use mk_move::{Basis, Move};
+use std::alloc::Global;
 use std::marker::Model;
 
 /// A completion as it stands: its basis, the journal of the settled pairs, the claim and the halt of each worker. It is seen
 /// as the core state with the moves' weights, list and grading, and is always legal.
 #[derive(Debug, Drop)]
 pub struct Ledger {
-    pub(crate) start_len: u32,
-    pub(crate) basis: Basis,
-    pub(crate) settled: SettledBits,
-    pub(crate) journal: Journal,
-    pub(crate) next: Frontier,
-    pub(crate) claims: Vec<Option<Held>>,
-    pub(crate) given_up: u64,
-    pub(crate) halts: Vec<Option<KeptHalt>>,
-    pub(crate) first: Option<u32>,
-    pub(crate) budget: u64,
-    pub(crate) limit: u32,
-    pub(crate) workers: u32,
+    start_len: u32,
+    basis: Basis,
+    settled: SettledBits,
+    journal: Journal,
+    next: Frontier,
+    claims: Vec<Option<Held>>,
+    given_up: u64,
+    halts: Vec<Option<KeptHalt>>,
+    first: Option<u32>,
+    budget: u64,
+    limit: u32,
+    workers: u32,
 }
 
 impl Model for Ledger {
@@ -43,7 +55,64 @@ impl Model for Ledger {
     ghost invariant = { AreFields };
 }
 
+/// What is left of a completion: how many moves the basis began with, the basis, how its pairs were settled, and the halt of
+/// the worker that halted first.
+#[derive(Debug, Drop)]
+pub struct LedgerParts {
+    pub start_len: u32,
+    pub basis: Basis,
+    pub journal: Journal,
+    pub first_halt: Option<Halt>,
+}
+
+/// Why a move is not placed.
+#[derive(Debug, Drop)]
+pub enum PlaceFault {
+    /// There is no memory for this move.
+    Memory { given: Move },
+    /// The basis has more moves than this one was reduced by: so many.
+    Behind { length: u32, given: Move },
+    /// The basis has its limit of moves, and the worker halts for it.
+    BasisFull,
+}
+
 impl Ledger {
+    /// A completion of the moves of a basis that begins: no pair is settled, and no worker has a claim or a halt. At most so
+    /// many claims may be made, the basis may have at most so many moves, and there are 1 to 64 workers.
+    pub fn new(
+        alloc: Global,
+        start: Basis,
+        budget: u64,
+        basis_limit: u32,
+        workers: u32,
+    ) -> Result<Ledger, NoMemory>
+        requires room { length start.moves ≤ basis_limit }
+        requires limit { basis_limit ≤ 65536 }
+        requires some { 1 ≤ workers }
+        requires few { workers ≤ 64 }
+        ensures state { IfOk result (λ ledger. ledger.state ≡ new_state (vectors_of start.moves) budget basis_limit workers) }
+        ensures basis { IfOk result (λ ledger. ledger.basis ≡ start) }
+    {
+        let start_len = start.len();
+        let settled = SettledBits::of_moves(alloc, start_len)?;
+        let claims = none_for_each(alloc, workers)?;
+        let halts = none_for_each(alloc, workers)?;
+        Ok(Ledger {
+            start_len,
+            basis: start,
+            settled,
+            journal: Journal::new(alloc),
+            next: Frontier::new(),
+            claims,
+            given_up: 0,
+            halts,
+            first: None,
+            budget,
+            limit: basis_limit,
+            workers,
+        })
+    }
+
     /// How many moves the basis began with.
     pub fn start_len(&self) -> u32
         ensures { result ≡ self.now.state.start_length }
@@ -57,5 +126,377 @@ impl Ledger {
         ensures kept { IsLedger self.now }
     {
         &self.basis
+    }
+
+    /// Whether every pair of the basis is settled and no worker has a claim.
+    pub fn is_ended(&self) -> bool
+        ensures { IsTrue result ↔ IsEnded self.now.state }
+    {
+        if self.given_up > 0 {
+            return false;
+        }
+        if self.next.is_within(self.basis.len()) {
+            return false;
+        }
+        none_held(&self.claims)
+    }
+
+    /// The places of a worker's claim, the lesser first.
+    pub fn claim_of(&self, worker: u32) -> Option<(u32, u32)>
+        requires { worker < self.now.state.workers }
+        ensures { MatchOption result (claim_of self.now.state worker ≡ None)
+            (λ places. claim_of self.now.state worker ≡ Some (pair_of places.0 places.1)) }
+    {
+        let held = self.claims[worker as usize]?;
+        Some((held.i, held.j))
+    }
+
+    /// How many claims were made: at most the budget.
+    pub fn claims_made(&self) -> u64
+        ensures value { result ≡ self.now.state.claims_made }
+        ensures range { result ≤ self.now.state.budget }
+    {
+        self.next.number()
+    }
+
+    /// How many pairs are settled.
+    pub fn settled_count(&self) -> u64
+        ensures { result ≡ length self.now.state.journal }
+    {
+        self.journal.len()
+    }
+
+    /// An entry of the journal by its number, the first being 0.
+    pub fn entry_at(&self, n: u64) -> JournalEntry
+        requires { n < length self.now.state.journal }
+        ensures value { slice_get self.now.state.journal n ≡ Some (settle_of result) }
+        ensures third { HasItsThird result }
+    {
+        self.journal.entry_at(n)
+    }
+
+    /// The halt of the worker that halted first.
+    pub fn first_halt(&self) -> Option<&Halt>
+        ensures { MatchOption result (self.now.state.first_halted ≡ None)
+            (λ halt. IsFirstHalt self.now.state (Some halt.now)) }
+    {
+        let worker = self.first?;
+        match &self.halts[worker as usize] {
+            Some(kept) => Some(&kept.halt),
+            None => None,
+        }
+    }
+
+    /// How many claims may be made.
+    pub fn budget(&self) -> u64
+        ensures { result ≡ self.now.state.budget }
+    {
+        self.budget
+    }
+
+    /// How many moves the basis may have: at most 65,536.
+    pub fn basis_limit(&self) -> u32
+        ensures value { result ≡ self.now.state.limit }
+        ensures range { result ≤ 65536 }
+    {
+        self.limit
+    }
+
+    /// How many workers there are: 1 to 64.
+    pub fn workers(&self) -> u32
+        ensures value { result ≡ self.now.state.workers }
+        ensures some { 1 ≤ result }
+        ensures few { result ≤ 64 }
+    {
+        self.workers
+    }
+
+    /// Whether the pair of two different places of the basis is settled, in either order.
+    pub fn is_settled(&self, i: u32, j: u32) -> bool
+        requires apart { i ≢ j }
+        requires first { i < length self.now.state.basis }
+        requires second { j < length self.now.state.basis }
+        ensures { IsTrue result ↔ AreSettled self.now.state.journal i j }
+    {
+        if i < j {
+            self.settled.is_settled(i, j)
+        } else {
+            self.settled.is_settled(j, i)
+        }
+    }
+
+    /// Answers a worker that asks for a pair and has none. Where no worker has halted, a pair is free and the budget isn't
+    /// used up, the least free pair is its claim from now on. It allocates nothing.
+    pub fn claim(&mut self, worker: u32) -> Claim
+        requires within { worker < self.old.state.workers }
+        requires idle { claim_of self.old.state worker ≡ None }
+        ensures answered { AnswersClaim self.old.state worker result self.new.state }
+        ensures basis { self.new.basis ≡ self.old.basis }
+    {
+        if let Some(other) = self.first {
+            return Claim::Stopped { worker: other };
+        }
+        if !self.next.is_within(self.basis.len()) {
+            return self.none_left();
+        }
+        let made = self.next.number();
+        if made >= self.budget {
+            return Claim::OverBudget { made };
+        }
+        self.give(worker)
+    }
+
+    /// The answer where no worker has halted and every pair was claimed.
+    fn none_left(&self) -> Claim
+        requires no_halt { self.now.state.first_halted ≡ None }
+        requires all { pairs_of (length self.now.state.basis) ≤ self.now.state.claims_made }
+        ensures { (worker : ℕ) → AnswersClaim self.now.state worker result self.now.state }
+    {
+        match least_claim(&self.claims) {
+            Some((worker, held)) => Claim::NotYet {
+                worker,
+                i: held.i,
+                j: held.j,
+            },
+            None => Claim::Ended,
+        }
+    }
+
+    /// Gives the worker the next pair in their order, which is the least free one.
+    fn give(&mut self, worker: u32) -> Claim
+        requires { MayClaim self.old.state worker }
+        ensures answered { AnswersClaim self.old.state worker result self.new.state }
+        ensures basis { self.new.basis ≡ self.old.basis }
+    {
+        let (i, j) = self.next.pair();
+        self.claims[worker as usize] = Some(Held { i, j });
+        self.next.advance();
+        Claim::Claimed { i, j }
+    }
+
+    /// Settles the claim of a worker, whose difference reduces to 0. After a refusal all is as before.
+    pub fn settle_zero(&mut self, worker: u32) -> Result<(), NoMemory>
+        requires { IsZeroClaim (length self.old.basis.grading) self.old.state worker }
+        ensures ok { OnOk result (IsSettling (length self.old.basis.grading) self.old.basis.priority self.old.state worker Zero self.new.state) }
+        ensures basis { self.new.basis ≡ self.old.basis }
+        ensures err { OnErr result (self.new ≡ self.old) }
+    {
+        let held = self.held_by(worker);
+        self.journal.push(entry_of(held, worker, 0, Kind::Zero))?;
+        self.settled.mark(held.i, held.j);
+        self.claims[worker as usize] = None;
+        Ok(())
+    }
+
+    /// Settles the claim of a worker by a move that is placed behind the last one, and gives its place. The move is the
+    /// claim's difference, reduced by the first `front` moves. `Behind` comes where the basis has more of them, and else
+    /// `BasisFull` where it has its limit: then the worker halts. After the other faults all is as before.
+    pub fn settle_place(
+        &mut self,
+        worker: u32,
+        front: u32,
+        remainder: Move,
+    ) -> Result<u32, PlaceFault>
+        requires reduct { IsReductOfClaim self.old.state worker front remainder.entries }
+        requires belongs { BelongsTo self.old.basis.priority self.old.basis.grading remainder }
+        ensures { IsPlacing self.old worker front remainder result self.new }
+    {
+        let length = self.basis.len();
+        if front < length {
+            return Err(PlaceFault::Behind {
+                length,
+                given: remainder,
+            });
+        }
+        if length == self.limit {
+            self.halt_full(worker);
+            return Err(PlaceFault::BasisFull);
+        }
+        self.place(worker, remainder)
+    }
+
+    /// The worker halts, since the basis has its limit of moves and its claim needs another.
+    fn halt_full(&mut self, worker: u32)
+        requires { IsFullClaim self.old.state worker }
+        ensures halting { HaltsFull self.old.state worker self.new.state }
+        ensures basis { self.new.basis ≡ self.old.basis }
+    {
+        let held = self.held_by(worker);
+        self.keep_halt(
+            worker,
+            Halt::Full {
+                i: held.i,
+                j: held.j,
+            },
+        );
+    }
+
+    /// Settles the claim of a worker by a move for which there is room, and gives its place.
+    fn place(&mut self, worker: u32, m: Move) -> Result<u32, PlaceFault>
+        requires reduct { IsReductOfClaim self.old.state worker (length self.old.basis.moves) m.entries }
+        requires belongs { BelongsTo self.old.basis.priority self.old.basis.grading m }
+        requires room { length self.old.basis.moves < self.old.state.limit }
+        ensures { IsPlacing self.old worker (length self.old.basis.moves) m result self.new }
+    {
+        let place = self.basis.len();
+        let held = self.held_by(worker);
+        let entry = entry_of(held, worker, place, Kind::Place);
+        append(
+            &mut self.journal,
+            &mut self.basis,
+            &mut self.settled,
+            entry,
+            m,
+        )?;
+        self.settled.mark(held.i, held.j);
+        self.claims[worker as usize] = None;
+        Ok(place)
+    }
+
+    /// The pair that a worker has claimed: two places below 65,536, the lesser first. The worker's number is below 64, and
+    /// it has no halt.
+    fn held_by(&self, worker: u32) -> Held
+        requires { IsSome (claim_of self.now.state worker) }
+        ensures value { claim_of self.now.state worker ≡ Some result }
+        ensures pair { IsPairOf self.now.state.basis result }
+        ensures worker { worker < self.now.state.workers }
+        ensures no_halt { halt_of self.now.state worker ≡ None }
+        ensures small { AreSmall result worker }
+    {
+        self.claims[worker as usize].unwrap()
+    }
+
+    /// Halts a worker that has no halt, for an overflow at its claim or for want of memory, and gives its claim up. For a
+    /// basis that has its limit of moves, `settle_place` halts it.
+    pub fn halt(&mut self, worker: u32, halt: Halt)
+        requires worker { worker < self.old.state.workers }
+        requires no_halt { halt_of self.old.state worker ≡ None }
+        requires cause { IsHaltCause self.old.state worker (halt_as halt) }
+        requires not_full { NotFull (halt_as halt) }
+        ensures halting { IsHalting self.old.state worker (halt_as halt) self.new.state }
+        ensures basis { self.new.basis ≡ self.old.basis }
+    {
+        self.keep_halt(worker, halt);
+    }
+
+    /// Keeps the halt of a worker that has none, and gives its claim up. It is the first to halt if no other did.
+    fn keep_halt(&mut self, worker: u32, halt: Halt)
+        requires worker { worker < self.old.state.workers }
+        requires no_halt { halt_of self.old.state worker ≡ None }
+        requires cause { IsHaltCause self.old.state worker (halt_as halt) }
+        ensures halting { IsHalting self.old.state worker (halt_as halt) self.new.state }
+        ensures basis { self.new.basis ≡ self.old.basis }
+    {
+        self.given_up += u64::from(self.claims[worker as usize].is_some());
+        self.claims[worker as usize] = None;
+        self.halts[worker as usize] = Some(KeptHalt { halt });
+        self.first = self.first.or(Some(worker));
+    }
+
+    /// Takes a ledger apart.
+    pub fn into_parts(self) -> LedgerParts
+        ensures start_len { result.start_len ≡ self.state.start_length }
+        ensures basis { result.basis ≡ self.basis }
+        ensures journal { settles_of result.journal ≡ self.state.journal }
+        ensures thirds { HaveTheirThirds result.journal }
+        ensures first_halt { IsFirstHalt self.state result.first_halt }
+        ensures kept { IsLedger self }
+    {
+        // Whoever counts its entries knows that each has its third.
+        let _ = self.journal.len();
+        let first_halt = take_halt(self.halts, self.first);
+        LedgerParts {
+            start_len: self.start_len,
+            basis: self.basis,
+            journal: self.journal,
+            first_halt,
+        }
+    }
+}
+
+/// None for each of so many workers.
+fn none_for_each<T: Drop>(alloc: Global, workers: u32) -> Result<Vec<Option<T>>, NoMemory>
+    ensures { IfOk result (λ nones. nones.items ≡ replicate workers None) }
+{
+    let mut nones = Vec::with_capacity(alloc, workers as usize)?;
+    for _ in 0..workers {
+        nones.push(None)?;
+    }
+    Ok(nones)
+}
+
+/// The entry of a pair that a worker settled. `third` is the third move for Chain, the new place for Place, and 0 else.
+fn entry_of(held: Held, worker: u32, third: u32, kind: Kind) -> JournalEntry
+    requires small { AreSmall held worker }
+    requires third { third < 65536 }
+    requires of_kind { third ≡ third_of (way_of kind third) }
+    ensures value { settle_of result ≡ settle worker held (way_of kind third) }
+    ensures third { HasItsThird result }
+{
+    JournalEntry {
+        i: held.i as u16,
+        j: held.j as u16,
+        third: third as u16,
+        worker: worker as u8,
+        kind,
+    }
+}
+
+/// Puts the entry at the end of the journal and the move at the end of the basis, with flags for its pairs. After a
+/// refusal all is as before, and the move is handed back.
+fn append(
+    journal: &mut Journal,
+    basis: &mut Basis,
+    settled: &mut SettledBits,
+    entry: JournalEntry,
+    m: Move,
+) -> Result<(), PlaceFault>
+    requires belongs { BelongsTo basis.old.priority basis.old.grading m }
+    requires flags { AreFlagsOf basis.old.moves settled.old }
+    requires third { HasItsThird entry }
+    ensures ok { OnOk result ((journal.new ≡ journal.old ++ entry ∷ []) × IsGrown basis.old settled.old m basis.new settled.new) }
+    ensures err { OnErr result ((journal.new ≡ journal.old) × (basis.new ≡ basis.old) × (settled.new ≡ settled.old)) }
+    ensures given { IfErr result (λ fault. fault ≡ PlaceFault.Memory m) }
+{
+    if journal.push(entry).is_err() {
+        return Err(PlaceFault::Memory { given: m });
+    }
+    let grown = grow(basis, settled, m);
+    if grown.is_err() {
+        journal.take_back();
+    }
+    grown
+}
+
+/// Puts the move at the end of the basis, and flags for its pairs, none of them settled. After a refusal all is as before,
+/// and the move is handed back.
+fn grow(basis: &mut Basis, settled: &mut SettledBits, m: Move) -> Result<(), PlaceFault>
+    requires belongs { BelongsTo basis.old.priority basis.old.grading m }
+    requires flags { AreFlagsOf basis.old.moves settled.old }
+    ensures ok { OnOk result (IsGrown basis.old settled.old m basis.new settled.new) }
+    ensures err { OnErr result ((basis.new ≡ basis.old) × (settled.new ≡ settled.old)) }
+    ensures given { IfErr result (λ fault. fault ≡ PlaceFault.Memory m) }
+{
+    if settled.grow().is_err() {
+        return Err(PlaceFault::Memory { given: m });
+    }
+    match basis.push(m) {
+        Ok(()) => Ok(()),
+        Err(fault) => {
+            settled.shrink();
+            Err(PlaceFault::Memory { given: fault.given })
+        }
+    }
+}
+
+/// The halt of a worker among the halts of all, or none where no worker is named.
+fn take_halt(mut halts: Vec<Option<KeptHalt>>, worker: Option<u32>) -> Option<Halt>
+    requires { IfSome worker (λ w. w < length halts.items) }
+    ensures { IsHaltOf halts.items worker result }
+{
+    let place = worker?;
+    match halts.swap_remove(place as usize) {
+        Some(kept) => Some(kept.halt),
+        None => None,
     }
 }

@@ -2,30 +2,19 @@
 //! settled how.
 #![tactic(auto)]
 
-mod beginning;
 mod bits;
-mod claim;
 mod claims;
-mod frontier;
 mod halt;
-mod halting;
-mod held;
 mod journal;
 mod ledger;
-mod numbers;
-mod parts;
-mod readings;
-mod settles;
+mod pairs;
 
 pub use bits::SettledBits;
-pub use claim::Claim;
-pub use frontier::Frontier;
+pub use claims::Claim;
 pub use halt::{Halt, OverflowStop};
 pub use journal::{Journal, JournalEntry, Kind};
-pub use ledger::Ledger;
-pub use numbers::pair_number;
-pub use parts::LedgerParts;
-pub use settles::PlaceFault;
+pub use ledger::{Ledger, LedgerParts, PlaceFault};
+pub use pairs::{Frontier, pair_number};
 
 #[cfg(test)]
 mod tests;

@@ -27,6 +27,12 @@ pub mod ReducedLaws
 pub mod MoveOrder
 pub mod TheAnswer
 pub mod Components
+pub mod FiniteFibres
+pub mod UndividedBases
+pub mod SmallVectors
+pub mod LikeColumns
+pub mod TwistedCubic
+pub mod SmallCurve
 pub mod Journals
 pub mod LegalEvents
 pub mod EndedStates
@@ -35,6 +41,12 @@ pub mod OverflowExamples
 pub mod EventExamples
 pub mod OrderTests
 pub mod VectorExamples
+pub mod GradingExamples
+pub mod ReducedBasisExamples
+pub mod TokenExamples
+pub mod PairExamples
+pub mod ChainExamples
+pub mod HaltExamples
 pub mod WalkExamples
 pub mod AnswerExamples
 pub mod TableExamples

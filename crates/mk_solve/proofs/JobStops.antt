@@ -38,7 +38,7 @@ stops job before phase stop Stopped after from cause e = record { phase = phase;
 
 pub stops_by_overflow : (job : Job) (before : Book) (phase : Phase) (number : ℕ) (stop : OverflowStop) (result : RunStop) (after : Book) → number ≡ length before.phases →
     Finishes (ledger_for job) (Err (core.Overflow phase stop)) → KeepsStop before phase (Overflow (Pair number) stop) result after → Completes job before (Err result) after
-stops_by_overflow job before phase number stop result after e (from, left, genuine) kept =
+stops_by_overflow job before phase number stop result after e (from, left, genuine, within) kept =
     stops job before phase (Overflow (Pair number) stop) result after from (λ k. (e, left, genuine)) kept
 
 pub stops_by_budget : (job : Job) (before : Book) (phase : Phase) (settled more : ℕ) (result : RunStop) (after : Book) → settled ≡ settled_of before.phases → more ≡ length phase.journal →
@@ -48,5 +48,5 @@ stops_by_budget job before phase settled more result after e f (from, over) kept
 
 pub stops_by_full : (job : Job) (before : Book) (phase : Phase) (number i j : ℕ) (result : RunStop) (after : Book) → number ≡ length before.phases →
     Finishes (ledger_for job) (Err (core.BasisFull phase i j)) → KeepsStop before phase (BasisFull number i j) result after → Completes job before (Err result) after
-stops_by_full job before phase number i j result after e (from, full) kept =
+stops_by_full job before phase number i j result after e (from, full, within) kept =
     stops job before phase (BasisFull number i j) result after from (λ k. (e, full)) kept

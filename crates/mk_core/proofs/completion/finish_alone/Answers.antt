@@ -2,7 +2,7 @@ use Rattle.std.proofs.Common.{Ok, Err, ap, subst, ◌∙◌}
 use Rattle.mk_reduce.specs.Leads.{leads_of}
 use Rattle.mk_core.specs.declared.completion.Ending.TheVariants.{Ended, OverBudget, Halted}
 use Rattle.mk_core.specs.GoingOn.{EndsBy}
-use Rattle.mk_core.proofs.Finishing.{Finishes-earlier, none_stood}
+use Rattle.mk_core.proofs.Finishing.{Finishes-earlier, over_budget_earlier, first_stays, none_stood}
 use Rattle.mk_core.proofs.completion.finish_alone.Goals as goal
 use Rattle.mk_core.proofs.completion.finish_alone.Goals.{In-Ended, In-OverBudget, In-Halted}
 
@@ -43,6 +43,18 @@ pub returns-clause-answer : goal.returns-clause-answer
 returns-clause-answer c =
     Finishes-earlier c.args.ledger c.settle_pairs.new.ledger c.in_ok-settle_pairs.ensures.goes_on (Err c.stopped_by.result) c.stopped_by.ensures.answer
 
+pub returns-in-Ended-clause-over_budget : goal.returns-in-Ended-clause-over_budget
+returns-in-Ended-clause-over_budget c =
+    over_budget_earlier c.args.ledger c.settle_pairs.new.ledger c.in_ok-settle_pairs.ensures.goes_on (Ok c.ended.result) c.ended.ensures
+
+pub returns-in-OverBudget-clause-over_budget : goal.returns-in-OverBudget-clause-over_budget
+returns-in-OverBudget-clause-over_budget c =
+    over_budget_earlier c.args.ledger c.settle_pairs.new.ledger c.in_ok-settle_pairs.ensures.goes_on (Err c.over_budget.result) c.over_budget.ensures
+
+pub returns-clause-over_budget : goal.returns-clause-over_budget
+returns-clause-over_budget c =
+    over_budget_earlier c.args.ledger c.settle_pairs.new.ledger c.in_ok-settle_pairs.ensures.goes_on (Err c.stopped_by.result) c.stopped_by.ensures.answer
+
 pub returns-in-Ended-clause-halted : goal.returns-in-Ended-clause-halted
 returns-in-Ended-clause-halted c worker halt e f =
     none_stood c.args.ledger c.settle_pairs.new.ledger c.in_ok-settle_pairs.ensures.goes_on worker ((at_ended (goal.at.returns-in-Ended-clause-halted c).In-Ended).0) e
@@ -53,5 +65,5 @@ returns-in-OverBudget-clause-halted c worker halt e f =
 
 pub returns-clause-halted : goal.returns-clause-halted
 returns-clause-halted c worker halt e f =
-    let (first, kept) = c.in_ok-settle_pairs.ensures.goes_on.first_stays worker halt e f in
+    let (first, kept) = first_stays c.args.ledger c.settle_pairs.new.ledger c.in_ok-settle_pairs.ensures.goes_on worker halt e f in
     c.stopped_by.ensures.halted worker halt first kept

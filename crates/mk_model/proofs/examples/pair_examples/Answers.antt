@@ -1,0 +1,15 @@
+use Rattle.std.proofs.Common.{refl}
+use Rattle.mk_model.specs.Vectors.{combine, positive_part}
+use Rattle.mk_model.specs.Reductions.{lcm}
+use Rattle.mk_model.proofs.PairExamples.{oriented_moves, disjoint, joined_below, every_pair}
+use Rattle.mk_model.proofs.examples.pair_examples.Goals as goal
+
+pub returns : goal.returns
+unfolding lcm combine positive_part
+returns c = record {
+  multiple_of_leads = refl;
+  oriented_moves = oriented_moves;
+  disjoint = disjoint;
+  joined_below = joined_below;
+  every_pair = every_pair;
+}

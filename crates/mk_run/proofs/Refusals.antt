@@ -46,6 +46,9 @@ left_book book (run.Input fault) after h = inr (inl (fault, ap (λ (b : Book). r
 left_book book run.Stopped after h = inr (inr h)
 
 -- ---- the causes
+pub rose_earlier : (a b c : ℕ) → a ≤ b → Rose b c → Rose a c
+rose_earlier a b c h r = elim r [ inl up ↦ inl (omega arith) | inr full ↦ inr full ]
+
 rose_later : (a b c : ℕ) → a ≤ b → b ≤ c → Rose a b → Rose a c
 rose_later a b c h k r = elim r [ inl up ↦ inl (omega arith) | inr full ↦ elim (eq-or-lt_of_le k) [ inl e ↦ inr (sym e ∙ full) | inr more ↦ inl (omega arith) ] ]
 

@@ -1,6 +1,6 @@
 use Rattle.std.proofs.Common.{◌≡◌, ◌⊎◌, List, ℕ, Err, Ok, sym, subst, map, string_bytes}
 use Rattle.mk_desk.specs.Folders.{WhereTold, Rose}
-use Rattle.mk_desk.proofs.Telling.{where_told_then, where_told_weaker, rose_earlier}
+use Rattle.mk_desk.proofs.Telling.{where_told_then, where_told_weaker}
 use Rattle.mk_solve.specs.Books.{Book}
 use Rattle.mk_run.specs.Lines.{usage_line, memory_line, text_of_line}
 use Rattle.mk_run.specs.Runs.{Ends, EndsUnnamed, HasCauseOf, InputIsShown, IsDecided, SaysLine}
@@ -9,7 +9,7 @@ use Rattle.mk_run.specs.Words.{NamesProject}
 use Rattle.mk_run.specs.declared.status.Status.TheVariants.{Done, Memory}
 use Rattle.mk_run.proofs.Decided.{decided, done_decided}
 use Rattle.mk_run.proofs.Endings.{nothing_said}
-use Rattle.mk_run.proofs.Refusals.{empty_is_few, input_shown, memory_told, refused_cause, refused_ends, unnamed_ends, unsaid_ends}
+use Rattle.mk_run.proofs.Refusals.{empty_is_few, input_shown, memory_told, refused_cause, refused_ends, rose_earlier, unnamed_ends, unsaid_ends}
 use Rattle.mk_run.proofs.WordsNamed.{one_project}
 use Rattle.mk_run.proofs.run.run_alone.Goals as goal
 use Rattle.mk_run.proofs.run.run_alone.Goals.{Joined-refusal-2}

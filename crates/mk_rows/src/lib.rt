@@ -4,6 +4,8 @@
 #[cfg(test)]
 mod answers;
 #[cfg(test)]
+mod endings;
+#[cfg(test)]
 mod folders;
 #[cfg(test)]
 mod refusals;

@@ -25,6 +25,7 @@ pub mod StarLaws
 pub mod DivisorWeights
 pub mod ReducedLaws
 pub mod MoveOrder
+pub mod BookLaws
 pub mod TheAnswer
 pub mod Components
 pub mod FiniteFibres
@@ -39,6 +40,7 @@ pub mod EndedStates
 pub mod JournalExamples
 pub mod OverflowExamples
 pub mod EventExamples
+pub mod StateExamples
 pub mod OrderTests
 pub mod VectorExamples
 pub mod GradingExamples

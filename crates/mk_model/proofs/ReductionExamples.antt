@@ -68,3 +68,11 @@ apart =
     (all_two (AreApart cubic_second) cubic_third cubic_first (not_divides _ _ refl, not_divides _ _ refl) (not_divides _ _ refl, not_divides _ _ refl))
     (AllPairs-cons AreApart cubic_third (cubic_first ∷ [])
     (All-cons (AreApart cubic_third) cubic_first [] (not_divides _ _ refl, not_divides _ _ refl) (All-nil (AreApart cubic_third))) (λ i j d h l. absurd (omega arith)))
+
+pub divides_top : Divides (lead cubic_first) (pos 0 ∷ pos 2 ∷ pos 2 ∷ pos 0 ∷ [])
+unfolding divides subtract combine positive_part
+divides_top = divides_true _ _ refl
+
+pub no_divisor : ¬ (Divides (pos 1 ∷ pos 0 ∷ pos 0 ∷ pos 0 ∷ []) (pos 0 ∷ pos 2 ∷ pos 2 ∷ pos 0 ∷ []))
+unfolding divides subtract combine
+no_divisor = not_divides _ _ refl

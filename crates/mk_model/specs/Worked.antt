@@ -2,7 +2,7 @@
 use Rattle.std.specs.Prelude.{◌≡◌, ℕ, List, [], ◌∷◌, ◌++◌, None, Some, codes, ℤ, pos, neg_ℤ}
 use Rattle.mk_model.specs.Lattices.{Lattice, lattice_of, ones}
 use Rattle.mk_model.specs.Tables.{Grid, Limits}
-use Rattle.mk_model.specs.CoreStates.{Settle, pair_of, settle, CoreState, claim_of, halt_of, new_state, Halt, OverflowStop, stop_at}
+use Rattle.mk_model.specs.CoreStates.{Settle, pair_of, settle, CoreState, claim_of, halt_of, new_state, phase_state, Halt, OverflowStop, stop_at}
 use Rattle.mk_model.specs.CoreStates.Way.{Coprime, Zero, Place}
 
 -- ---- two columns: (1 -1), (2 -2) and (4 -4)
@@ -180,10 +180,15 @@ reducing = settle 0 (pair_of 0 2) Zero
 abbrev pub skipping : Settle
 skipping = settle 0 (pair_of 1 2) Coprime
 
--- it begins for two workers with a budget of 3 pairs and a limit of 3 moves; or with a limit of 2
+-- it begins for two workers with a budget of 3 pairs and a limit of 3 moves
 abbrev pub begun_state : CoreState
 begun_state = new_state start_moves 3 3 2
 
+-- when it is ended, without its workers
+abbrev pub ended_phase : CoreState
+ended_phase = phase_state 2 completed_moves (placing ∷ reducing ∷ skipping ∷ []) 3 3
+
+-- it begins with a limit of 2 moves
 abbrev pub narrow_state : CoreState
 narrow_state = new_state start_moves 3 2 2
 
@@ -224,3 +229,13 @@ step_moves =
 
 abbrev pub step_stop : OverflowStop
 step_stop = stop_at (pair_of 0 1) (Some 2) (Some step_from) 1 (pos 9223372036854775803) (pos 1) (neg_ℤ (pos 5))
+
+-- and -9223372036854775807 less 1, in a step on the tail of (4611686018427387904 -1 -9223372036854775807) by (0 1 -1)
+abbrev pub tail_heavy : List ℤ
+tail_heavy = pos 4611686018427387904 ∷ neg_ℤ (pos 1) ∷ neg_ℤ (pos 9223372036854775807) ∷ []
+
+abbrev pub tail_moves : List (List ℤ)
+tail_moves = tail_heavy ∷ like_first ∷ []
+
+abbrev pub tail_stop : OverflowStop
+tail_stop = stop_at (pair_of 0 0) (Some 1) (Some tail_heavy) 2 (neg_ℤ (pos 9223372036854775807)) (neg_ℤ (pos 1)) (neg_ℤ (pos 1))

@@ -14,16 +14,17 @@ ghost use Rattle.mk_model.specs.Tables.{is_space, tokens, IsCount, IsNumber, Gri
 ghost use Rattle.mk_model.specs.TableFaults.{line_of, HasFault};
 ghost use Rattle.mk_model.specs.TableFaults.{NoHeader, BadNumber, Rows, Columns, EntryRange, Missing, Trailing};
 ghost use Rattle.mk_model.specs.Texts.{move_text};
-ghost use Rattle.mk_model.specs.Reductions.{lcm, Meet, Reduct, TailReduct, IsIrreducible, IsNormal};
+ghost use Rattle.mk_model.specs.Reductions.{lcm, Divides, Meet, Reduct, TailReduct, IsIrreducible, IsNormal};
 ghost use Rattle.mk_model.specs.Pairs.{AreOrientedMoves, AreDisjoint, JoinedBelow, EveryPairJoined};
-ghost use Rattle.mk_model.specs.Saturation.{IsSupported, every_column, JoinedUpTo, ConnectedUpTo, drop_redundant, NoneRedundant};
-ghost use Rattle.mk_model.specs.CoreStates.{CoreState, pair_of, settle};
+ghost use Rattle.mk_model.specs.Saturation.{IsSupported, every_column, without_column, JoinedUpTo, ConnectedUpTo};
+ghost use Rattle.mk_model.specs.Saturation.{is_redundant, needed, drop_redundant, NoneRedundant};
+ghost use Rattle.mk_model.specs.CoreStates.{CoreState, pair_of, settle, difference, IsPairOf, IsLesser};
 ghost use Rattle.mk_model.specs.CoreStates.Way.{Coprime, Zero, Place};
 ghost use Rattle.mk_model.specs.CoreStates.Halt.{Overflow, Full, Memory};
-ghost use Rattle.mk_model.specs.Overflows.{IsGenuineOverflow};
+ghost use Rattle.mk_model.specs.Overflows.{IsGenuineOverflow, IsTailOverflow};
 ghost use Rattle.mk_model.specs.Events.{IsChain, Happens, HappenInTurn, with_claim};
 ghost use Rattle.mk_model.specs.Events.Event.{Claims, Settles, Halts};
-ghost use Rattle.mk_model.specs.Legal.{Replays, IsEnded};
+ghost use Rattle.mk_model.specs.Legal.{Replays, IsLegal, IsEnded};
 ghost use Rattle.mk_model.specs.Worked.{unit_move, double_move, fourfold_move, double_lattice};
 ghost use Rattle.mk_model.specs.Worked.{cubic_top, cubic_rows, cubic_lattice, cubic_first};
 ghost use Rattle.mk_model.specs.Worked.{cubic_second, cubic_third, cubic_turned, cubic_moves};
@@ -37,6 +38,7 @@ ghost use Rattle.mk_model.specs.Worked.{wide_limits, digit_limits, column_one, s
 ghost use Rattle.mk_model.specs.Worked.{completed_moves, placing, reducing, skipping, begun_state};
 ghost use Rattle.mk_model.specs.Worked.{narrow_state, far_moves, difference_stop, step_moves};
 ghost use Rattle.mk_model.specs.Worked.{step_stop, chain_moves, far_state, IsHalted};
+ghost use Rattle.mk_model.specs.Worked.{ended_phase, tail_moves, tail_heavy, tail_stop};
 
 /// Entries, sums, multiples, parts and weights of vectors; points, and the range of entries.
 pub fn vector_examples()
@@ -133,6 +135,7 @@ pub fn answer_examples()
 pub fn reduced_basis_examples()
     ensures of_twisted_cubic { IsReducedBasis cubic_lattice (cubic_second ∷ cubic_third ∷ cubic_first ∷ []) }
     ensures of_small_curve { IsReducedBasis curve_lattice (curve_first ∷ curve_second ∷ curve_third ∷ []) }
+    ensures reduced { IsReducedMove 4 cubic_rows cubic_third }
     ensures least { IsLeast 4 cubic_rows cubic_outer }
     ensures none_lighter { (v : List ℤ) → ¬ (LighterMoves cubic_lattice (pos 2) v) }
     ensures components { All (IsLeastOfComponent cubic_lattice) (cubic_inner ∷ cubic_outer ∷ []) }
@@ -183,9 +186,8 @@ pub fn text_examples()
     ensures none { move_text 4 [] ≡ codes "0 4" ++ 10 ∷ [] }
 {}
 
-/// On the twisted cubic: steps down that meet, `(1 -3 3 -1)` with the reduct 0, a reduct of a
-/// tail, what no lead divides and what is normal; and of the moves `(2 -2)`, `(1 -1)` and
-/// `(1 -1)` the one that is not redundant.
+/// On the twisted cubic: steps down that meet, `(1 -3 3 -1)` with the reduct 0, a reduct of a tail,
+/// what no lead divides, what is normal, and what divides another vector.
 pub fn reduction_examples()
     ensures meet { Meet cubic_turned (pos 1 ∷ pos 0 ∷ pos 3 ∷ pos 0 ∷ []) (pos 0 ∷ pos 3 ∷ pos 0 ∷ pos 1 ∷ []) }
     ensures reduct { Reduct cubic_turned (pos 1 ∷ neg_ℤ (pos 3) ∷ pos 3 ∷ neg_ℤ (pos 1) ∷ []) (zeros 4) }
@@ -193,7 +195,18 @@ pub fn reduction_examples()
         (pos 1 ∷ pos 0 ∷ pos 0 ∷ neg_ℤ (pos 1) ∷ []) }
     ensures irreducible { IsIrreducible cubic_turned cubic_outer }
     ensures normal { IsNormal cubic_turned cubic_third }
-    ensures redundant { drop_redundant (double_move ∷ unit_move ∷ unit_move ∷ []) ≡ unit_move ∷ [] }
+    ensures divides { Divides (lead cubic_first) (pos 0 ∷ pos 2 ∷ pos 2 ∷ pos 0 ∷ []) }
+    ensures no_divisor { ¬ (Divides (pos 1 ∷ pos 0 ∷ pos 0 ∷ pos 0 ∷ []) (pos 0 ∷ pos 2 ∷ pos 2 ∷ pos 0 ∷ [])) }
+{}
+
+/// Of the moves `(2 -2)`, `(1 -1)` and `(1 -1)` the first and the last are redundant. Of the answer
+/// of the twisted cubic none is.
+pub fn redundancy_examples()
+    ensures larger_lead { is_redundant [] double_move (unit_move ∷ unit_move ∷ []) ≡ true }
+    ensures first_of_two { is_redundant (double_move ∷ []) unit_move (unit_move ∷ []) ≡ false }
+    ensures second_of_two { is_redundant (double_move ∷ unit_move ∷ []) unit_move [] ≡ true }
+    ensures needed { needed (double_move ∷ []) (unit_move ∷ unit_move ∷ []) ≡ unit_move ∷ [] }
+    ensures left { drop_redundant (double_move ∷ unit_move ∷ unit_move ∷ []) ≡ unit_move ∷ [] }
     ensures apart { NoneRedundant cubic_moves }
 {}
 
@@ -210,6 +223,7 @@ pub fn pair_examples()
 /// The rows of the twisted cubic join `(1 0 0 1)` and `(0 1 1 0)` once `(0 1 0 0)` is added, and
 /// are connected up to all columns.
 pub fn saturation_examples()
+    ensures removed { (without_column every_column 1 0 ≡ true) × (without_column every_column 1 1 ≡ false) }
     ensures supported { IsSupported (λ c. c == 1) (pos 0 ∷ pos 1 ∷ pos 0 ∷ pos 0 ∷ []) }
     ensures joined_up_to { JoinedUpTo 4 (λ c. c == 1) cubic_rows cubic_outer cubic_inner }
     ensures connected_up_to { ConnectedUpTo 4 cubic_rows every_column cubic_rows }
@@ -223,6 +237,19 @@ pub fn journal_examples()
     ensures exchanged { ¬ (Replays 4 column_one 3 [] start_moves (reducing ∷ placing ∷ skipping ∷ []) completed_moves) }
 {}
 
+/// Pairs of the start and their order; the difference of (0, 1); and the completion without its
+/// workers when it is ended, which is legal.
+pub fn state_examples()
+    ensures pair { IsPairOf start_moves (pair_of 0 1) }
+    ensures no_pair { ¬ (IsPairOf start_moves (pair_of 0 2)) }
+    ensures order { IsLesser (pair_of 0 1) (pair_of 0 2) × IsLesser (pair_of 0 2) (pair_of 1 2)
+        × IsLesser (pair_of 1 2) (pair_of 0 3) }
+    ensures difference { difference start_moves (pair_of 0 1) ≡ cubic_third }
+    ensures begun { IsLegal 4 column_one begun_state }
+    ensures legal { IsLegal 4 column_one ended_phase }
+    ensures ended { IsEnded ended_phase }
+{}
+
 /// Among `(1 1 -1 -1)`, `(1 -1 1 -1)` and `(-1 1 1 -1)` the pair (0, 1) is settled by a chain
 /// through the third move, once the other two pairs are, and not before.
 pub fn chain_examples()
@@ -231,11 +258,13 @@ pub fn chain_examples()
     ensures too_early { ¬ (IsChain chain_moves (settle 0 (pair_of 0 2) Zero ∷ []) (pair_of 0 1) 2) }
 {}
 
-/// Entries that leave the range: 9223372036854775807 less -1, in the difference of a pair; and
-/// 9223372036854775803 less -5, in a step of reduction.
+/// Entries that leave the range: 9223372036854775807 less -1, in the difference of a pair;
+/// 9223372036854775803 less -5, in a step of reduction; and -9223372036854775807 less 1, in a step
+/// on a tail.
 pub fn overflow_examples()
     ensures difference { IsGenuineOverflow far_moves difference_stop }
     ensures step { IsGenuineOverflow step_moves step_stop }
+    ensures tail_step { IsTailOverflow tail_moves 0 1 tail_heavy tail_stop }
 {}
 
 /// The same completion by events, with two workers, until it is ended; and while worker 0 has the

@@ -1,4 +1,4 @@
-use Rattle.mk_model.proofs.ReductionExamples.{meet, reduces_to_zero, tail_reduct, irreducible, normal, drops_two, apart}
+use Rattle.mk_model.proofs.ReductionExamples.{meet, reduces_to_zero, tail_reduct, irreducible, normal, divides_top, no_divisor}
 use Rattle.mk_model.proofs.examples.reduction_examples.Goals as goal
 
 pub returns : goal.returns
@@ -8,6 +8,6 @@ returns c = record {
   tail_reduct = tail_reduct;
   irreducible = irreducible;
   normal = normal;
-  redundant = drops_two;
-  apart = apart;
+  divides = divides_top;
+  no_divisor = no_divisor;
 }

@@ -20,7 +20,7 @@ module _ (project : List ℕ) (book : Book) (before after : State) where
   stopped_decided status stop x z h = record {
     faulty = λ fault has. absurd (not_both (project_files x.files project) h.cause.lat h.cause.grading fault h.cause.problem has);
     solvable = λ lat w problem. inl (inr stop);
-    one_row = λ lat w problem few. ?;
+    one_row = λ lat w problem few. absurd (?);
   }
 
   pub done_decided : (x z : Desk) → BooksProblem (project_files x.files project) book → Decided Done x z

@@ -1,7 +1,8 @@
 -- How a run ends that is refused: what the book has then, and what was said and left.
-use Rattle.std.proofs.Common.{◌≡◌, ◌⊎◌, ◌+◌, ℕ, ◌≤◌, List, ◌++◌, take, Option, Some, None, IfSome, Err, IsErrOf, false, refl, ap, sym, subst, ◌∙◌, inl, inr, arith}
+use Rattle.std.proofs.Common.{◌≡◌, ◌⊎◌, ◌+◌, ℕ, ◌≤◌, List, [], ◌∷◌, ◌++◌, take, Result, Option, Some, None, IfSome, Err, IsErrOf, false, refl, ap, sym, subst, ◌∙◌, inl, inr, arith}
 use Rattle.std.proofs.Math.Nat.{eq-or-lt_of_le}
 use Rattle.mk_desk.specs.Folders.{Desk, State, Rose, HasCause, OnlyFaultsRose}
+use Rattle.mk_model.specs.Books.{PlainPhase, settled_in}
 use Rattle.mk_project.specs.Lines.{input_line}
 use Rattle.mk_project.specs.declared.file.InputFile.{InputFile}
 use Rattle.mk_project.specs.declared.file.TheConstants.{FILE_LIMIT}
@@ -9,23 +10,23 @@ use Rattle.mk_project.specs.declared.fault.InputFault.{InputFault}
 use Rattle.mk_project.specs.declared.fault.InputFault.TheVariants.{NoLattice, FileSize, Table, Grade}
 use Rattle.mk_input.specs.Projects.{project_files, IsFaulty}
 use Rattle.mk_input.specs.Readings.{OnlyRead, IsShownBy}
-use Rattle.mk_solve.specs.Books.{Book, empty_book, settled_of}
+use Rattle.mk_solve.specs.Books.{Book, empty_book, book_as, settled_of}
 use Rattle.mk_solve.specs.declared.book.BookStop.{BookStop}
 use Rattle.mk_solve.specs.declared.book.BookStop.TheVariants as why
 use Rattle.mk_run.specs.Lines.{IsLine, usage_line, folder_line, memory_line, stop_line, text_of_line}
-use Rattle.mk_run.specs.Runs.{default_budget, HasItsStop, HasLeftBook, HasFailedBook, HasCauseOf, InputIsShown, SaysLine, HasStop, IsStopped, Leaves, RunsOut, Ends, EndsUnnamed}
-use Rattle.mk_run.specs.Stages.{HasBook, IsNotMaking, IsRefusal, IsRunShown, LeavesBegun, Answers, book_with}
+use Rattle.mk_run.specs.Runs.{default_budget, IsDone, IsUnderWay, HasItsStop, EndsByBudget, HasLeftBook, HasFailedBook, HasCauseOf, InputIsShown, SaysLine, HasStop, IsStopped, Leaves, RunsOut, Ends, EndsUnnamed}
+use Rattle.mk_run.specs.Stages.{HasBook, IsStoppedByBudget, IsNotMaking, IsRefusal, IsRunShown, LeavesBegun, Answers, book_with}
 use Rattle.mk_run.specs.Statuses.{status_of}
 use Rattle.mk_run.specs.declared.fault.RunFault.{RunFault}
 use Rattle.mk_run.specs.declared.fault.RunFault.TheVariants as run
 use Rattle.mk_run.specs.declared.refusal.Refused.{Refused}
 use Rattle.mk_run.specs.declared.status.Status.{Status}
-use Rattle.mk_run.specs.declared.status.Status.TheVariants.{Usage, Input, Folder, Memory}
+use Rattle.mk_run.specs.declared.status.Status.TheVariants.{Usage, Input, Folder, Budget, Memory}
 
 -- ---- the book
 -- a book that is empty has few pairs
 pub empty_is_few : (book : Book) → book ≡ empty_book → settled_of book.phases ≤ default_budget
-unfolding settled_of
+unfolding settled_in
 empty_is_few book e = subst (λ (b : Book). settled_of b.phases ≤ default_budget) (sym e) (omega arith)
 
 pub same_pairs : (book : Book) (fault : RunFault) → (book_with book fault).phases ≡ book.phases
@@ -38,12 +39,24 @@ same_pairs book run.Stopped = refl
 its_stop : (book : Book) (stop kept : BookStop) → book.stop ≡ Some kept → HasItsStop book stop → HasItsStop book kept
 its_stop book stop kept e h = subst (HasItsStop book) (let both = sym h.1 ∙ e in cc) h
 
+-- a book that is complete is under way
+pub begun_of_done : (book : Book) → IsDone book → IsUnderWay book
+begun_of_done book done = (done.0, record {
+  lat = done.1.lat;
+  grading = done.1.grading;
+  positive = done.1.positive;
+  fact = record {
+    bases = done.1.fact.bases;
+    under_way = record { rest = done.1.fact.complete.rest; left = []; phases = done.1.fact.complete.phases; reduced = inr done.1.fact.complete };
+  };
+})
+
 -- what the book has, once a fault of the input is kept, and memory ran out
 left_book : (book : Book) (fault : RunFault) (after : State) → HasBook book after (Err fault) → HasLeftBook (book_with book fault)
-left_book book run.Memory after h = inl h
-left_book book run.Failed after h = elim h [ inl e ↦ inl (ap (λ (b : Book). b.input) e.0, ap (λ (b : Book). b.stop) e.0) | inr d ↦ inl d.0 ]
+left_book book run.Memory after h = elim h [ inl e ↦ inl e | inr begun ↦ inr (inr (inl begun)) ]
+left_book book run.Failed after h = elim h [ inl e ↦ inl e.0 | inr d ↦ inr (inr (inl (begun_of_done book d))) ]
 left_book book (run.Input fault) after h = inr (inl (fault, ap (λ (b : Book). record b { input = Some fault }) h))
-left_book book run.Stopped after h = inr (inr h)
+left_book book run.Stopped after h = inr (inr (inr h))
 
 -- ---- the causes
 pub rose_earlier : (a b c : ℕ) → a ≤ b → Rose b c → Rose a c
@@ -90,7 +103,35 @@ pub memory_told : (project : List ℕ) (book : Book) (fault : RunFault) (refusal
 memory_told project book fault refusal status which r e =
     elim which [ inl same ↦ same ∙ (subst (λ (f : RunFault). IsRefusal project book f refusal) e r).0 | inr memory ↦ memory ]
 
+-- ---- the budget
+-- a stop of the budget is the one that the book has
+budget_status : (book : Book) (stop : BookStop) (settled : ℕ) → book.stop ≡ Some (why.Budget settled) → book.stop ≡ Some stop → status_of stop ≡ Budget
+budget_status book stop settled e f = ap status_of (let both = sym f ∙ e in cc)
+
+pub ends_by_budget : (project : List ℕ) (book : Book) (fault : RunFault) (refusal : Refused) (status : Status) → (status ≡ refusal.status) ⊎ (status ≡ Memory) → IsRefusal project (book_with book fault) fault refusal →
+    IsStoppedByBudget book (Err fault) → EndsByBudget (book_with book fault) status
+ends_by_budget project book run.Stopped refusal status which r stops = λ used other.
+    elim which [ inl e ↦ inl (e ∙ r.2 ∙ budget_status book r.0 default_budget (stops used other).1 r.1) | inr memory ↦ inr memory ]
+ends_by_budget project book run.Memory refusal status which r stops = λ used other. absurd (let e = (stops used other).0 in cc)
+ends_by_budget project book run.Failed refusal status which r stops = λ used other. absurd (let e = (stops used other).0 in cc)
+ends_by_budget project book (run.Input fault) refusal status which r stops = λ used other. absurd (let e = (stops used other).0 in cc)
+
+-- an empty book has no phase of which a pair is left
+nothing_used : (earlier : List PlainPhase) (phase : PlainPhase) → [] ≡ earlier ++ phase ∷ [] → ⊥
+nothing_used [] phase e = cc
+nothing_used (first ∷ earlier) phase e = cc
+
+pub empty_stops : (book : Book) (result : Result Unit RunFault) → book ≡ empty_book → IsStoppedByBudget book result
+empty_stops book result e = λ used other. absurd (nothing_used used.earlier used.phase (sym (ap (λ (b : Book). (book_as b).phases) e) ∙ used.last))
+
 -- ---- what the folder showed
+-- a book that waits has neither a fault nor a stop
+waiting_input : (book : Book) → (book ≡ empty_book) ⊎ IsUnderWay book → book.input ≡ None
+waiting_input book h = elim h [ inl e ↦ ap (λ (b : Book). b.input) e | inr begun ↦ begun.0.0 ]
+
+waiting_stop : (book : Book) → (book ≡ empty_book) ⊎ IsUnderWay book → book.stop ≡ None
+waiting_stop book h = elim h [ inl e ↦ ap (λ (b : Book). b.stop) e | inr begun ↦ begun.0.1 ]
+
 shown_later : (before after : State) → OnlyFaultsRose before after → (fault : InputFault) → IsShownBy before fault → IsShownBy after fault
 shown_later before after only NoLattice h = ap (λ (s : State). s.found) only ∙ h
 shown_later before after only (FileSize file read) h = (ap (λ (s : State). s.found) only ∙ h.0, h.1, ap (λ (s : State). s.given) only ∙ h.2)
@@ -98,7 +139,7 @@ shown_later before after only (Table file fault) h = (ap (λ (s : State). s.foun
 shown_later before after only (Grade fault) h = subst (λ n. n ≤ FILE_LIMIT) (sym (ap (λ (s : State). s.given) only)) h
 
 no_input : (book : Book) (fault : RunFault) (other : InputFault) (after : State) → HasBook book after (Err fault) → (book_with book fault).input ≡ Some other → fault ≡ run.Input other
-no_input book run.Memory other after h e = let none = h.0 in cc
+no_input book run.Memory other after h e = let none = waiting_input book h in cc
 no_input book run.Failed other after h e = elim h [ inl c ↦ (let none = ap (λ (b : Book). b.input) c.0 in cc) | inr d ↦ (let none = d.0.0 in cc) ]
 no_input book (run.Input fault) other after h e = cc
 no_input book run.Stopped other after h e = let none = h.1.0 in cc
@@ -169,7 +210,7 @@ module _ (project : List ℕ) (book : Book) where
         errors = ap (λ (d : Desk). d.errors) said.change ∙ ap (λ e. e ++ take said.count line) left.errors;
         made = elim left.made [
           | inl same ↦ inl (name ∙ same.0, made ∙ same.1)
-          | inr begun ↦ inr (record { lat = begun.lat; moves = begun.moves; answer = begun.answer; name = name ∙ begun.name; count = begun.count; made = made ∙ begun.made })
+          | inr begun ↦ inr (record { lat = begun.lat; grading = begun.grading; problem = begun.problem; complete = begun.complete; moves = begun.moves; basis = begun.basis; name = name ∙ begun.name; count = begun.count; made = made ∙ begun.made })
         ];
       }
 
@@ -201,13 +242,13 @@ module _ (project : List ℕ) (book : Book) (between : State) where
   leaves run.Stopped x y a = read_alone project book x y a.1
 
   faulty_kept : (fault : RunFault) (x y : Desk) → HasBook book between (Err fault) → Answers project book (Err fault) x y → IfSome (book_with book fault).input (IsFaulty (project_files x.files project))
-  faulty_kept run.Memory x y h a = no_fault_kept project book h.0 x
+  faulty_kept run.Memory x y h a = no_fault_kept project book (waiting_input book h) x
   faulty_kept run.Failed x y h a = no_fault_kept project book (failed_input book between h) x
   faulty_kept (run.Input fault) x y h a = a.0
   faulty_kept run.Stopped x y h a = no_fault_kept project book h.1.0 x
 
   stop_kept : (fault : RunFault) (x y : Desk) → HasBook book between (Err fault) → Answers project book (Err fault) x y → IfSome (book_with book fault).stop (HasStop (project_files x.files project) (book_with book fault))
-  stop_kept run.Memory x y h a = no_stop_kept project book h.1 x
+  stop_kept run.Memory x y h a = no_stop_kept project book (waiting_stop book h) x
   stop_kept run.Failed x y h a = no_stop_kept project book (failed_stop book between h) x
   stop_kept (run.Input fault) x y h a = no_stop_kept project (book_with book (run.Input fault)) (ap (λ (b : Book). b.stop) h) x
   stop_kept run.Stopped x y h a = subst (λ s. IfSome s (HasStop (project_files x.files project) book)) (sym a.0.1) a.0.2

@@ -1,9 +1,11 @@
 -- How a run ends. The headline is `WritesMarkovBasis`.
 use Rattle.std.specs.Prelude.{◌≡◌, ◌⊎◌, ℕ, ◌+◌, ◌≤◌, List, ◌++◌, length, take, Option, Some, None, IfSome, ℤ, codes}
 use Rattle.std.specs.FinMap.{insert}
+use Rattle.std.specs.Option.{option_map}
 use Rattle.mk_model.specs.Bases.{IsMinimalMarkovBasis}
+use Rattle.mk_model.specs.Books.{BookIsComplete, BookIsUnderWay, HasStopped, IsBudgetUsed, IsNoOtherStop}
 use Rattle.mk_model.specs.ChosenGradings.{IsGradingOf}
-use Rattle.mk_model.specs.Lattices.{nonzero_rows}
+use Rattle.mk_model.specs.Lattices.{Lattice, nonzero_rows}
 use Rattle.mk_model.specs.Tables.{lattice_of_table, Grid, rows_of}
 use Rattle.mk_model.specs.Texts.{move_text}
 use Rattle.mk_desk.specs.Folders.{Desk, State, Rose}
@@ -15,8 +17,8 @@ use Rattle.mk_project.specs.declared.fault.InputFault.{InputFault}
 use Rattle.mk_project.specs.declared.fault.InputFault.TheVariants.{FileSize}
 use Rattle.mk_input.specs.Projects.{ProjectFiles, project_files, IsProblem, IsFaulty}
 use Rattle.mk_input.specs.Readings.{IsShownBy}
-use Rattle.mk_solve.specs.Books.{Book, empty_book}
-use Rattle.mk_solve.specs.Solutions.{BookIsComplete, HasStopped}
+use Rattle.mk_solve.specs.Books.{Book, empty_book, book_as, stop_as}
+use Rattle.mk_solve.specs.Solutions.{KeepsBases}
 use Rattle.mk_solve.specs.declared.book.BookStop.{BookStop}
 use Rattle.mk_run.specs.Lines.{IsLine, usage_line, folder_line, stop_line}
 use Rattle.mk_run.specs.Statuses.{status_of}
@@ -45,28 +47,41 @@ pub record WritesMarkovBasis (project : List ℕ) (before after : Desk) : Type 0
   pub out : after.out ≡ before.out
   pub errors : after.errors ≡ before.errors
 
--- the book is complete for the lattice that the files are
-pub record BooksProblem (files : ProjectFiles) (book : Book) : Type 0 where
+-- so it is for the lattice that the files are, with its grading
+pub record ForLatticeOf (files : ProjectFiles) (Fact : Lattice → Type 0) : Type 0 where
   pub lat : Grid
   pub grading : List ℤ
   pub problem : IsProblem files lat grading
-  pub done : BookIsComplete (rows_of lat) grading book
+  pub fact : Fact (lattice_of_table lat grading)
+
+-- so it is for the lattice of some table, with a grading
+pub record ForSomeLattice (Fact : Lattice → Type 0) : Type 0 where
+  pub lat : Grid
+  pub grading : List ℤ
+  pub positive : IsGradingOf lat grading
+  pub fact : Fact (lattice_of_table lat grading)
+
+-- ---- what the book says of a lattice
+-- every phase is ended, and the reduced basis is made
+pub record BookCompletes (book : Book) (lattice : Lattice) : Type 0 where
+  pub bases : KeepsBases lattice.grading book
+  pub complete : BookIsComplete lattice (book_as book)
+
+-- the phases that stand in it are ended
+pub record BookBegins (book : Book) (lattice : Lattice) : Type 0 where
+  pub bases : KeepsBases lattice.grading book
+  pub under_way : BookIsUnderWay lattice (book_as book)
+
+-- the stop has its cause in the phases or in the reduced basis, within the budget of a run
+pub record BookStops (book : Book) (stop : BookStop) (lattice : Lattice) : Type 0 where
+  pub bases : KeepsBases lattice.grading book
+  pub cause : HasStopped lattice default_budget (book_as book) (stop_as stop)
+
+-- the book is complete for the lattice that the files are
+abbrev pub BooksProblem : ProjectFiles → Book → Type 0
+BooksProblem files book = ForLatticeOf files (BookCompletes book)
 
 -- ---- what each status is caused by, in what the book has and in what every folder has
--- the book is complete for a lattice of some rows and a grading
-pub record BookIsCompleteFor (book : Book) : Type 0 where
-  pub lat : Grid
-  pub grading : List ℤ
-  pub positive : IsGradingOf lat grading
-  pub done : BookIsComplete (rows_of lat) grading book
-
--- the stop has its cause in the book, for a lattice of some rows and a grading
-pub record IsStopFor (book : Book) (stop : BookStop) : Type 0 where
-  pub lat : Grid
-  pub grading : List ℤ
-  pub positive : IsGradingOf lat grading
-  pub cause : HasStopped (rows_of lat) grading default_budget book stop
-
 -- the empty book with a fault of the input
 abbrev pub refused_book : InputFault → Book
 refused_book fault = record empty_book { input = Some fault }
@@ -77,11 +92,15 @@ HasNeither book = (book.input ≡ None) × (book.stop ≡ None)
 
 -- no fault and no stop, and the book is complete
 abbrev pub IsDone : Book → Type 0
-IsDone book = HasNeither book × BookIsCompleteFor book
+IsDone book = HasNeither book × ForSomeLattice (BookCompletes book)
+
+-- no fault and no stop, and the phases that stand in the book are ended
+abbrev pub IsUnderWay : Book → Type 0
+IsUnderWay book = HasNeither book × ForSomeLattice (BookBegins book)
 
 -- no fault, and a stop with its cause
 abbrev pub HasItsStop : Book → BookStop → Type 0
-HasItsStop book stop = (book.input ≡ None) × (book.stop ≡ Some stop) × IsStopFor book stop
+HasItsStop book stop = (book.input ≡ None) × (book.stop ≡ Some stop) × ForSomeLattice (BookStops book stop)
 
 -- a stop of this status
 abbrev pub HasStopOf : Status → Book → Type 0
@@ -92,9 +111,11 @@ HasStopOf status book = (stop : BookStop) × HasItsStop book stop × (status_of 
 abbrev pub HasFailedBook : Book → State → Type 0
 HasFailedBook book after = ((book ≡ empty_book) × ¬ (after.found ≡ Some Absent)) ⊎ IsDone book
 
--- no fault and no stop, or a fault alone, or a stop with its cause
+-- Nothing, or a fault alone, or phases that are ended and neither a fault nor a stop, or a stop with its cause.
 abbrev pub HasLeftBook : Book → Type 0
-HasLeftBook book = HasNeither book ⊎ ((fault : InputFault) × (book ≡ refused_book fault)) ⊎ ((stop : BookStop) × HasItsStop book stop)
+HasLeftBook book =
+    (book ≡ empty_book) ⊎ ((fault : InputFault) × (book ≡ refused_book fault))
+    ⊎ IsUnderWay book ⊎ ((stop : BookStop) × HasItsStop book stop)
 
 -- Each status with its cause. Want of memory is free, but what the book then has has its cause. No file is left being made, but
 -- where the folder failed or memory ran out.
@@ -107,6 +128,12 @@ HasCauseOf book before after Overflow = HasStopOf Overflow book × (after.making
 HasCauseOf book before after Budget = HasStopOf Budget book × (after.making ≡ before.making)
 HasCauseOf book before after Memory = HasLeftBook book
 HasCauseOf book before after Full = HasStopOf Full book × (after.making ≡ before.making)
+
+-- Where the budget was used and a pair of the last phase is left, the status says so, unless the run stopped by an entry out of range or a
+-- full basis, or memory ran out.
+abbrev pub EndsByBudget : Book → Status → Type 0
+EndsByBudget book status =
+    IsBudgetUsed default_budget (book_as book) → IsNoOtherStop (option_map stop_as book.stop) → (status ≡ Budget) ⊎ (status ≡ Memory)
 
 -- Where the words name a project: the book's fault is as the folder showed it, and one byte more than a file may have was given
 -- only where a file is too long, unless memory ran out.
@@ -129,12 +156,9 @@ pub record RefusesInput (project : List ℕ) (book : Book) (rose : Type 0) (befo
   pub faulty : IsFaulty (project_files before.files project) fault
   pub line : SaysLine (input_line project fault) rose before after
 
--- the files are a lattice with its grading, and the book's stop has its cause in it
-pub record HasStop (files : ProjectFiles) (book : Book) (stop : BookStop) : Type 0 where
-  pub lat : Grid
-  pub grading : List ℤ
-  pub problem : IsProblem files lat grading
-  pub cause : HasStopped (rows_of lat) grading default_budget book stop
+-- the book's stop has its cause in the lattice that the files are
+abbrev pub HasStop : ProjectFiles → Book → BookStop → Type 0
+HasStop files book stop = ForLatticeOf files (BookStops book stop)
 
 -- the book's stop is one of this status and has its cause in the project's files, and only its line was said
 pub record IsStopped (project : List ℕ) (book : Book) (status : Status) (rose : Type 0) (before after : Desk) : Type 0 where
@@ -144,18 +168,14 @@ pub record IsStopped (project : List ℕ) (book : Book) (status : Status) (rose 
   pub cause : HasStop (project_files before.files project) book stop
   pub line : SaysLine (stop_line stop) rose before after
 
--- The files are a lattice with its grading, the book is complete for it, and the moves are its minimal Markov basis.
-pub record HasAnswer (files : ProjectFiles) (book : Book) (lat : Grid) (moves : List (List ℤ)) : Type 0 where
-  pub grading : List ℤ
-  pub problem : IsProblem files lat grading
-  pub done : BookIsComplete (rows_of lat) grading book
-  pub answer : IsMinimalMarkovBasis (lattice_of_table lat grading) moves
-
 -- The project's `.mar` was begun: its bytes so far are a front of the answer's text.
 pub record IsBegun (project : List ℕ) (book : Book) (before after : Desk) : Type 0 where
   pub lat : Grid
+  pub grading : List ℤ
+  pub problem : IsProblem (project_files before.files project) lat grading
+  pub complete : BookCompletes book (lattice_of_table lat grading)
   pub moves : List (List ℤ)
-  pub answer : HasAnswer (project_files before.files project) book lat moves
+  pub basis : IsMinimalMarkovBasis (lattice_of_table lat grading) moves
   pub name : after.made_name ≡ mar_name project
   pub count : ℕ
   pub made : after.made ≡ take count (move_text lat.columns moves)

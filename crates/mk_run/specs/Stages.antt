@@ -1,6 +1,8 @@
 -- What the stages of a run do, one after another.
 use Rattle.std.specs.Prelude.{◌≡◌, ◌⊎◌, ◌+◌, ℕ, List, take, false, Some, Result, Ok, Err, IsErrOf}
 use Rattle.std.specs.FinMap.{insert}
+use Rattle.std.specs.Option.{option_map}
+use Rattle.mk_model.specs.Books.{IsBudgetUsed, IsNoOtherStop}
 use Rattle.mk_move.specs.MoveLists.{MoveListView}
 use Rattle.mk_desk.specs.Folders.{Desk, State}
 use Rattle.mk_desk.specs.declared.folder.DeskFault.{DeskFault}
@@ -15,12 +17,13 @@ use Rattle.mk_input.specs.Readings.{OnlyRead, IsShownBy}
 use Rattle.mk_input.specs.declared.fault.ReadFault.{ReadFault}
 use Rattle.mk_input.specs.declared.fault.ReadFault.TheVariants as read
 use Rattle.mk_writer.specs.Writing.{text_of}
-use Rattle.mk_solve.specs.Books.{Book, empty_book}
+use Rattle.mk_solve.specs.Books.{Book, empty_book, book_as, stop_as}
 use Rattle.mk_solve.specs.declared.book.BookStop.{BookStop}
+use Rattle.mk_solve.specs.declared.book.BookStop.TheVariants.{Budget}
 use Rattle.mk_solve.specs.declared.solving.RunStop.{RunStop}
 use Rattle.mk_solve.specs.declared.solving.RunStop.TheVariants as solve
 use Rattle.mk_run.specs.Lines.{folder_line, memory_line, stop_line, text_of_line}
-use Rattle.mk_run.specs.Runs.{mar_name, IsDone, HasNeither, HasItsStop, HasFailedBook, HasStop, WritesMarkovBasis, BooksProblem, IsBegun}
+use Rattle.mk_run.specs.Runs.{default_budget, mar_name, IsDone, IsUnderWay, HasItsStop, HasFailedBook, HasStop, WritesMarkovBasis, BooksProblem, IsBegun}
 use Rattle.mk_run.specs.Statuses.{status_of}
 use Rattle.mk_run.specs.declared.fault.RunFault.{RunFault}
 use Rattle.mk_run.specs.declared.fault.RunFault.TheVariants.{Memory, Failed, Input, Stopped}
@@ -47,7 +50,13 @@ HasBook book after (Ok done) = IsDone book
 HasBook book after (Err (Input fault)) = book ≡ empty_book
 HasBook book after (Err Failed) = HasFailedBook book after
 HasBook book after (Err Stopped) = (stop : BookStop) × HasItsStop book stop
-HasBook book after (Err Memory) = HasNeither book
+HasBook book after (Err Memory) = (book ≡ empty_book) ⊎ IsUnderWay book
+
+-- Where the budget was used and a pair is left, that stopped the run, unless an entry out of range or a full basis did.
+abbrev pub IsStoppedByBudget : Book → Result Unit RunFault → Type 0
+IsStoppedByBudget book result =
+    IsBudgetUsed default_budget (book_as book) → IsNoOtherStop (option_map stop_as book.stop)
+    → (result ≡ Err Stopped) × (book.stop ≡ Some (Budget default_budget))
 
 -- the book with the fault of the input kept
 abbrev pub book_with : Book → RunFault → Book

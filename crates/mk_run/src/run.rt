@@ -4,8 +4,8 @@ ghost use Rattle.std.specs.Prelude.{◌≡◌, ◌⊎◌, ◌≤◌, ℕ, List, 
 ghost use Rattle.mk_desk.specs.Folders.{HasCause, OnlyFaultsRose, Rose, WhereTold};
 ghost use Rattle.mk_input.specs.Projects.{project_files};
 ghost use Rattle.mk_solve.specs.Books.{empty_book, settled_of};
-ghost use Rattle.mk_run.specs.Runs.{default_budget, BooksProblem, Ends, EndsUnnamed, HasCauseOf, InputIsShown, IsDecided, SaysLine, WritesMarkovBasis};
-ghost use Rattle.mk_run.specs.Stages.{Answers, HasBook, IsRunShown, IsNotMaking, WritesAnswer};
+ghost use Rattle.mk_run.specs.Runs.{default_budget, BooksProblem, Ends, EndsByBudget, EndsUnnamed, HasCauseOf, InputIsShown, IsDecided, SaysLine, WritesMarkovBasis};
+ghost use Rattle.mk_run.specs.Stages.{Answers, HasBook, IsStoppedByBudget, IsRunShown, IsNotMaking, WritesAnswer};
 ghost use Rattle.mk_run.specs.Words.{NamesProject};
 
 use crate::fault::RunFault;
@@ -53,9 +53,11 @@ pub fn run_alone<F: Folder>(
     ensures unnamed { ((project : List ℕ) → NamesProject (map string_bytes words.now) project → ⊥) → book.new ≡ empty_book }
 
     // Each status has its cause. The book has a fault exactly where the input was refused, and a stop exactly where the
-    // run stopped, unless memory ran out. It has no more pairs than a run may settle.
+    // run stopped, unless memory ran out. It has no more pairs than a run may settle, and where it has so many and a pair is left
+    // the status says so.
     ensures cause { HasCauseOf book.new (F.state folder.old) (F.state folder.new) result }
     ensures settled { settled_of book.new.phases ≤ default_budget }
+    ensures budget { EndsByBudget book.new result }
     ensures shown { (project : List ℕ) → NamesProject (map string_bytes words.now) project →
         InputIsShown book.new.input (F.state folder.new) result }
 
@@ -94,6 +96,7 @@ fn answer<F: Folder>(
     requires making { (F.state folder.old).making ≡ false }
     ensures book { HasBook book.new (F.state folder.new) result }
     ensures settled { settled_of book.new.phases ≤ default_budget }
+    ensures budget { IsStoppedByBudget book.new result }
     ensures making { IsNotMaking (F.state folder.new) result }
     ensures cause { HasCause RunFault.Failed (F.state folder.old) (F.state folder.new) result }
     ensures shown { IsRunShown (F.state folder.new) result }

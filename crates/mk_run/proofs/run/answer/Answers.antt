@@ -3,10 +3,10 @@ use Rattle.mk_desk.specs.Folders.{WhereTold}
 use Rattle.mk_desk.proofs.Loading.{the_error}
 use Rattle.mk_desk.proofs.Telling.{where_told_weaker}
 use Rattle.mk_input.specs.Readings.{ReadsProject}
-use Rattle.mk_run.specs.Stages.{Answers, HasBook, read_refused, stop_refused, write_refused}
+use Rattle.mk_run.specs.Stages.{Answers, HasBook, IsStoppedByBudget, read_refused, stop_refused}
 use Rattle.mk_run.specs.declared.fault.RunFault.{RunFault}
-use Rattle.mk_run.proofs.Refusals.{empty_is_few}
-use Rattle.mk_run.proofs.Solved.{unread_book, unsolved_book, unsolved_is_few, solved_is_done, unwritten_book, solving_refused}
+use Rattle.mk_run.proofs.Refusals.{empty_is_few, empty_stops}
+use Rattle.mk_run.proofs.Solved.{unread_book, unsolved_book, unsolved_stops, solving_refused}
 use Rattle.mk_run.proofs.run.answer.Goals as goal
 
 pub returns-in_err-problem-clause-book : goal.returns-in_err-problem-clause-book
@@ -26,12 +26,17 @@ returns-in_err-list-clause-book g c =
     let after = g.F.Folder.state c.read_project.new.folder in
     let book = c.solve_alone.new.book in
     subst (λ (result : Result Unit RunFault). HasBook book after result) (sym (the_error c.from_residual-in_err-list.result (stop_refused fault) c.from_residual-in_err-list.ensures.1))
-    (unsolved_book problem.lat problem.grading fault book after c.in_ok-problem.ensures.positive c.in_err-list.ensures)
+    (unsolved_book problem.lat problem.grading fault book after c.in_ok-problem.ensures.positive c.in_err-list.ensures.solved)
 
-pub returns-in_err-list-clause-settled : goal.returns-in_err-list-clause-settled
-returns-in_err-list-clause-settled g c =
-    let problem = c.in_ok-problem.problem in
-    unsolved_is_few problem.lat problem.grading c.in_err-list.field-0.0 c.solve_alone.new.book c.in_err-list.ensures
+pub returns-in_err-problem-clause-budget : goal.returns-in_err-problem-clause-budget
+returns-in_err-problem-clause-budget g c = empty_stops c.args.book.now c.from_residual.result c.requires.book
+
+pub returns-in_err-list-clause-budget : goal.returns-in_err-list-clause-budget
+returns-in_err-list-clause-budget g c =
+    let fault = c.in_err-list.field-0.0 in
+    let book = c.solve_alone.new.book in
+    subst (λ (result : Result Unit RunFault). IsStoppedByBudget book result) (sym (the_error c.from_residual-in_err-list.result (stop_refused fault) c.from_residual-in_err-list.ensures.1))
+    (unsolved_stops fault book c.in_err-list.ensures.budget)
 
 pub returns-in_err-list-clause-told : goal.returns-in_err-list-clause-told
 returns-in_err-list-clause-told g c =
@@ -42,4 +47,4 @@ returns-in_err-list-clause-told g c =
     subst (λ (result : Result Unit RunFault). WhereTold (g.F.Folder.told c.args.folder.now) (g.F.Folder.told c.read_project.new.folder) (Answers project book result))
     (sym (the_error c.from_residual-in_err-list.result (stop_refused fault) c.from_residual-in_err-list.ensures.1))
     (where_told_weaker _ _ (ReadsProject project (Ok problem)) (Answers project book (Err (stop_refused fault))) c.in_ok-problem.ensures.told
-    (solving_refused project problem book fault c.in_err-list.ensures))
+    (solving_refused project problem book fault c.in_err-list.ensures.solved))

@@ -1,5 +1,5 @@
 -- The phases of a book: one more at their end, and the last of them.
-use Rattle.std.proofs.Common.{◌≡◌, ℕ, List, [], ◌∷◌, ◌++◌, length, ℤ, refl, subst}
+use Rattle.std.proofs.Common.{ℕ, List, [], ◌∷◌, ◌++◌, ℤ, refl, subst}
 use Rattle.mk_model.specs.Books.{PlainPhase, PlainBook, IsPhaseAlong, IsPhaseEnded, Saturate, SaturateLattice, IsBudgetUsed}
 use Rattle.mk_model.specs.Lattices.{Lattice}
 use Rattle.mk_model.specs.Saturation.{drop_redundant}

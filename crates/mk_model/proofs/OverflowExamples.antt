@@ -56,10 +56,15 @@ lesser_columns zero l = (record { le = tt }, record { le = tt })
 lesser_columns (suc zero) l = (record { le = tt }, record { le = tt })
 lesser_columns (suc (suc c)) l = absurd (omega arith)
 
-pub in_tail_step : IsTailOverflow tail_moves 0 1 tail_heavy tail_stop
+pub in_tail_step : IsTailOverflow tail_moves 0 tail_stop
 in_tail_step = record {
   of_list = omega arith;
+  pair = refl;
+  place = 1;
+  by = refl;
   within = omega arith;
+  from = tail_heavy;
+  operand = refl;
   reached = here;
   count = 1;
   some = omega arith;

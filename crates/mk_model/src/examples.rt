@@ -264,7 +264,7 @@ pub fn chain_examples()
 pub fn overflow_examples()
     ensures difference { IsGenuineOverflow far_moves difference_stop }
     ensures step { IsGenuineOverflow step_moves step_stop }
-    ensures tail_step { IsTailOverflow tail_moves 0 1 tail_heavy tail_stop }
+    ensures tail_step { IsTailOverflow tail_moves 0 tail_stop }
 {}
 
 /// The same completion by events, with two workers, until it is ended; and while worker 0 has the

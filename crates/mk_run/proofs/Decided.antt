@@ -1,12 +1,15 @@
 -- What the files decide of a run, by how it ends.
 use Rattle.std.proofs.Common.{◌≡◌, ◌⊎◌, ℕ, ◌≤◌, List, length, Some, ap, refl, sym, subst, ◌∙◌, inl, inr, ℤ}
+use Rattle.mk_model.specs.Lattices.{nonzero_rows}
+use Rattle.mk_model.specs.Tables.{Grid, rows_of, lattice_of_table}
 use Rattle.mk_desk.specs.Folders.{Desk, State, Rose}
 use Rattle.mk_input.specs.Projects.{project_files, IsFaulty, IsProblem}
 use Rattle.mk_input.proofs.OneReading.{one_fault, not_both, one_problem}
 use Rattle.mk_project.specs.declared.fault.InputFault.{InputFault}
-use Rattle.mk_solve.specs.Books.{Book}
-use Rattle.mk_run.specs.Runs.{HasStopOf, HasCauseOf, HasStop, BooksProblem, IsStopped, WritesMarkovBasis, Ends, IsDecided}
+use Rattle.mk_solve.specs.Books.{Book, book_as, stop_as}
+use Rattle.mk_run.specs.Runs.{default_budget, HasStopOf, HasCauseOf, BooksProblem, IsStopped, Ends, IsDecided}
 use Rattle.mk_run.specs.declared.status.Status.{Status}
+use Rattle.mk_run.proofs.FewRows.{no_stop}
 use Rattle.mk_run.specs.declared.status.Status.TheVariants.{Done, Usage, Input, Folder, Overflow, Budget, Memory, Full}
 
 module _ (project : List ℕ) (book : Book) (before after : State) where
@@ -20,7 +23,10 @@ module _ (project : List ℕ) (book : Book) (before after : State) where
   stopped_decided status stop x z h = record {
     faulty = λ fault has. absurd (not_both (project_files x.files project) h.cause.lat h.cause.grading fault h.cause.problem has);
     solvable = λ lat w problem. inl (inr stop);
-    one_row = λ lat w problem few. absurd (?);
+    one_row = λ lat w problem few.
+        let same = (one_problem (project_files x.files project) lat h.cause.lat w h.cause.grading problem h.cause.problem).0 in
+        absurd (no_stop (lattice_of_table h.cause.lat h.cause.grading) default_budget (book_as book) (stop_as h.stop) h.cause.problem.positive
+        (subst (λ (g : Grid). length (nonzero_rows (rows_of g)) ≤ 1) same few) h.cause.fact.cause);
   }
 
   pub done_decided : (x z : Desk) → BooksProblem (project_files x.files project) book → Decided Done x z

@@ -121,6 +121,9 @@ nothing_used : (earlier : List PlainPhase) (phase : PlainPhase) → [] ≡ earli
 nothing_used [] phase e = cc
 nothing_used (first ∷ earlier) phase e = cc
 
+pub empty_ends : (book : Book) (status : Status) → book ≡ empty_book → EndsByBudget book status
+empty_ends book status e = λ used other. absurd (nothing_used used.earlier used.phase (sym (ap (λ (b : Book). (book_as b).phases) e) ∙ used.last))
+
 pub empty_stops : (book : Book) (result : Result Unit RunFault) → book ≡ empty_book → IsStoppedByBudget book result
 empty_stops book result e = λ used other. absurd (nothing_used used.earlier used.phase (sym (ap (λ (b : Book). (book_as b).phases) e) ∙ used.last))
 

@@ -3,13 +3,13 @@ use Rattle.mk_desk.specs.Folders.{WhereTold, Rose}
 use Rattle.mk_desk.proofs.Telling.{where_told_then, where_told_weaker}
 use Rattle.mk_solve.specs.Books.{Book}
 use Rattle.mk_run.specs.Lines.{usage_line, memory_line, text_of_line}
-use Rattle.mk_run.specs.Runs.{Ends, EndsUnnamed, HasCauseOf, InputIsShown, IsDecided, SaysLine}
+use Rattle.mk_run.specs.Runs.{Ends, EndsByBudget, EndsUnnamed, HasCauseOf, InputIsShown, IsDecided, SaysLine}
 use Rattle.mk_run.specs.Stages.{Answers, IsRefusal, book_with}
 use Rattle.mk_run.specs.Words.{NamesProject}
 use Rattle.mk_run.specs.declared.status.Status.TheVariants.{Done, Memory}
 use Rattle.mk_run.proofs.Decided.{decided, done_decided}
 use Rattle.mk_run.proofs.Endings.{nothing_said}
-use Rattle.mk_run.proofs.Refusals.{empty_is_few, input_shown, memory_told, refused_cause, refused_ends, rose_earlier, unnamed_ends, unsaid_ends}
+use Rattle.mk_run.proofs.Refusals.{empty_is_few, empty_ends, ends_by_budget, input_shown, memory_told, refused_cause, refused_ends, rose_earlier, unnamed_ends, unsaid_ends}
 use Rattle.mk_run.proofs.WordsNamed.{one_project}
 use Rattle.mk_run.proofs.run.run_alone.Goals as goal
 use Rattle.mk_run.proofs.run.run_alone.Goals.{Joined-refusal-2}
@@ -19,6 +19,9 @@ use Rattle.mk_run.proofs.run.run_alone.Given.{Over}
 pub returns-in_default-clause-settled : goal.returns-in_default-clause-settled
 returns-in_default-clause-settled g c = empty_is_few c.args.book.now c.requires.book
 
+pub returns-in_default-clause-budget : goal.returns-in_default-clause-budget
+returns-in_default-clause-budget g c = empty_ends c.args.book.now c.say.result c.requires.book
+
 pub returns-in_default-clause-told_unnamed : goal.returns-in_default-clause-told_unnamed
 returns-in_default-clause-told_unnamed g c =
     λ none.
@@ -27,6 +30,10 @@ returns-in_default-clause-told_unnamed g c =
     where_told_weaker _ _ (SaysLine usage_line (rose ⊎ (status ≡ Memory))) (EndsUnnamed rose status) c.say.ensures.told (unnamed_ends rose status c.say.ensures.status)
 
 -- ---- the answer
+pub returns-in_default-answer-clause-budget : goal.returns-in_default-answer-clause-budget
+returns-in_default-answer-clause-budget g c =
+    λ used other. absurd (let e = (c.in_default-answer.ensures.budget used other).0 in cc)
+
 pub returns-in_default-answer-clause-decided : goal.returns-in_default-answer-clause-decided
 returns-in_default-answer-clause-decided g c =
     λ project names.
@@ -74,6 +81,11 @@ ends_so g c project names =
     (subst (λ (b : Book). WhereTold start end (Ends read b (Rose before after) status)) (sym c.keep_fault.ensures)
     (where_told_then start middle end (Answers read book (Err fault)) (SaysLine (text_of_line refusal.line) (Rose between.faults after ⊎ (status ≡ Memory))) (Ends read (book_with book fault) (Rose before after) status) c.in-Err.ensures.told said
     (refused_ends read book between (Rose before after) (Rose between.faults after) fault refusal status c.say-in-Ok.ensures.status (rose_earlier before between.faults after c.in-Err.ensures.cause.later) (refusal_so g c) c.in-Err.ensures.book)))
+
+pub returns-in-Ok-clause-budget : goal.returns-in-Ok-clause-budget
+returns-in-Ok-clause-budget g c =
+    subst (λ (b : Book). EndsByBudget b c.say-in-Ok.result) (sym c.keep_fault.ensures)
+    (ends_by_budget c.in-Some.project.now c.answer.new.book c.in-Err.fault c.in-Ok.refusal c.say-in-Ok.result c.say-in-Ok.ensures.status (refusal_so g c) c.in-Err.ensures.budget)
 
 pub returns-in-Ok-clause-shown : goal.returns-in-Ok-clause-shown
 returns-in-Ok-clause-shown g c =

@@ -52,7 +52,7 @@ begun_of_done book done = (done.0, record {
 })
 
 -- what the book has, once a fault of the input is kept, and memory ran out
-left_book : (book : Book) (fault : RunFault) (after : State) → HasBook book after (Err fault) → HasLeftBook (book_with book fault)
+pub left_book : (book : Book) (fault : RunFault) (after : State) → HasBook book after (Err fault) → HasLeftBook (book_with book fault)
 left_book book run.Memory after h = elim h [ inl e ↦ inl e | inr begun ↦ inr (inr (inl begun)) ]
 left_book book run.Failed after h = elim h [ inl e ↦ inl e.0 | inr d ↦ inr (inr (inl (begun_of_done book d))) ]
 left_book book (run.Input fault) after h = inr (inl (fault, ap (λ (b : Book). record b { input = Some fault }) h))
@@ -106,7 +106,9 @@ memory_told project book fault refusal status which r e =
 -- ---- the budget
 -- a stop of the budget is the one that the book has
 budget_status : (book : Book) (stop : BookStop) (settled : ℕ) → book.stop ≡ Some (why.Budget settled) → book.stop ≡ Some stop → status_of stop ≡ Budget
-budget_status book stop settled e f = ap status_of (let both = sym f ∙ e in cc)
+budget_status book stop settled e f =
+    let same : stop ≡ why.Budget settled = (let both = sym f ∙ e in cc) in
+    ap status_of same
 
 pub ends_by_budget : (project : List ℕ) (book : Book) (fault : RunFault) (refusal : Refused) (status : Status) → (status ≡ refusal.status) ⊎ (status ≡ Memory) → IsRefusal project (book_with book fault) fault refusal →
     IsStoppedByBudget book (Err fault) → EndsByBudget (book_with book fault) status

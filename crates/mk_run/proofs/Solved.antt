@@ -1,8 +1,10 @@
 -- What the book has where a project is read, solved and written, or not.
-use Rattle.std.proofs.Common.{◌≡◌, ℤ, List, ℕ, Result, Ok, Err, ap, refl, inl, inr, sym, subst, ◌∙◌}
+use Rattle.std.proofs.Common.{◌≡◌, ◌⊎◌, ℤ, List, ℕ, take, Result, Ok, Err, ap, refl, inl, inr, sym, subst, ◌∙◌}
 use Rattle.mk_model.specs.ChosenGradings.{IsGradingOf}
 use Rattle.mk_model.specs.Tables.{Grid, lattice_of_table}
-use Rattle.mk_move.specs.MoveLists.{MoveListView}
+use Rattle.mk_model.specs.Texts.{move_text}
+use Rattle.mk_move.specs.MoveLists.{MoveListView, vectors_of}
+use Rattle.std.specs.FinMap.{insert}
 use Rattle.mk_desk.specs.Folders.{Desk, State}
 use Rattle.mk_desk.specs.declared.folder.DeskFault.{DeskFault}
 use Rattle.mk_desk.specs.declared.folder.DeskFault.TheVariants as desk
@@ -14,8 +16,9 @@ use Rattle.mk_solve.specs.Books.{Book, empty_book}
 use Rattle.mk_solve.specs.Solutions.{Solves, StopsByBudget}
 use Rattle.mk_solve.specs.declared.solving.RunStop.{RunStop}
 use Rattle.mk_solve.specs.declared.solving.RunStop.TheVariants as solve
-use Rattle.mk_run.specs.Runs.{default_budget, IsDone}
-use Rattle.mk_run.specs.Stages.{Answers, HasBook, IsStoppedByBudget, read_refused, stop_refused, write_refused}
+use Rattle.mk_writer.specs.Writing.{text_of}
+use Rattle.mk_run.specs.Runs.{default_budget, mar_name, IsDone}
+use Rattle.mk_run.specs.Stages.{Answers, HasBook, LeavesBegun, WritesAnswer, IsStoppedByBudget, read_refused, stop_refused, write_refused}
 use Rattle.mk_run.specs.declared.fault.RunFault.{RunFault}
 use Rattle.mk_run.proofs.Refusals.{begun_of_done, read_alone}
 
@@ -56,3 +59,48 @@ pub solving_refused : (project : List ℕ) (problem : Problem) (book : Book) (fa
 solving_refused project problem book solve.Memory h x y r = read_alone project book x y r.1
 solving_refused project problem book solve.Stopped h x y r =
     ((h.ends.0, h.ends.1, record { lat = problem.lat; grading = problem.grading; problem = r.0; fact = record { bases = h.bases; cause = h.ends.2 } }), r.1)
+
+-- the lattice was read and solved, and its list is written, or not
+module _ (project : List ℕ) (problem : Problem) (list : MoveListView) (book : Book) (h : Solves (lattice_of_table problem.lat problem.grading) default_budget (Ok list) book) where
+  text_is : text_of list ≡ move_text problem.lat.columns (vectors_of list.moves)
+  text_is = ap (λ n. move_text n (vectors_of list.moves)) h.ends.1.columns
+
+  pub answer_written : (x y z : Desk) → ReadsProject project (Ok problem) x y → WritesAnswer project list (Ok tt) y z → Answers project book (Ok tt) x z
+  answer_written x y z r q = (
+    record {
+      lat = problem.lat;
+      grading = problem.grading;
+      problem = r.0;
+      moves = vectors_of list.moves;
+      basis = h.ends.1.answer;
+      files =
+          ap (λ (d : Desk). d.files) q ∙ ap (λ (d : Desk). insert d.files (mar_name project) (text_of list)) r.1
+          ∙ ap (λ text. insert x.files (mar_name project) text) text_is;
+      out = ap (λ (d : Desk). d.out) q ∙ ap (λ (d : Desk). d.out) r.1;
+      errors = ap (λ (d : Desk). d.errors) q ∙ ap (λ (d : Desk). d.errors) r.1;
+    },
+    record { lat = problem.lat; grading = problem.grading; problem = r.0; fact = record { bases = h.bases; complete = h.ends.1.done } },
+  )
+
+  left_unwritten : (x y z : Desk) → ReadsProject project (Ok problem) x y → (z ≡ y) ⊎ ((count : ℕ) × (z ≡ record y { made_name = mar_name project; made = take count (text_of list) })) → LeavesBegun project book x z
+  left_unwritten x y z r (inl e) = read_alone project book x z (subst (λ (d : Desk). d ≡ record x { rest = d.rest }) (sym e) r.1)
+  left_unwritten x y z r (inr (count, q)) = record {
+    files = ap (λ (d : Desk). d.files) q ∙ ap (λ (d : Desk). d.files) r.1;
+    out = ap (λ (d : Desk). d.out) q ∙ ap (λ (d : Desk). d.out) r.1;
+    errors = ap (λ (d : Desk). d.errors) q ∙ ap (λ (d : Desk). d.errors) r.1;
+    made = inr (record {
+      lat = problem.lat;
+      grading = problem.grading;
+      problem = r.0;
+      complete = record { bases = h.bases; complete = h.ends.1.done };
+      moves = vectors_of list.moves;
+      basis = h.ends.1.answer;
+      name = ap (λ (d : Desk). d.made_name) q;
+      count = count;
+      made = ap (λ (d : Desk). d.made) q ∙ ap (take count) text_is;
+    });
+  }
+
+  pub answer_unwritten : (fault : DeskFault) (x y z : Desk) → ReadsProject project (Ok problem) x y → WritesAnswer project list (Err fault) y z → Answers project book (Err (write_refused fault)) x z
+  answer_unwritten desk.Memory x y z r q = left_unwritten x y z r q
+  answer_unwritten desk.Failed x y z r q = left_unwritten x y z r q

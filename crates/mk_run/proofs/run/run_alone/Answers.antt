@@ -3,13 +3,13 @@ use Rattle.mk_desk.specs.Folders.{WhereTold, Rose}
 use Rattle.mk_desk.proofs.Telling.{where_told_then, where_told_weaker}
 use Rattle.mk_solve.specs.Books.{Book}
 use Rattle.mk_run.specs.Lines.{usage_line, memory_line, text_of_line}
-use Rattle.mk_run.specs.Runs.{Ends, EndsByBudget, EndsUnnamed, HasCauseOf, InputIsShown, IsDecided, SaysLine}
+use Rattle.mk_run.specs.Runs.{Ends, EndsByBudget, EndsUnnamed, HasCauseOf, HasLeftBook, InputIsShown, IsDecided, SaysLine}
 use Rattle.mk_run.specs.Stages.{Answers, IsRefusal, book_with}
 use Rattle.mk_run.specs.Words.{NamesProject}
 use Rattle.mk_run.specs.declared.status.Status.TheVariants.{Done, Memory}
 use Rattle.mk_run.proofs.Decided.{decided, done_decided}
 use Rattle.mk_run.proofs.Endings.{nothing_said}
-use Rattle.mk_run.proofs.Refusals.{empty_is_few, empty_ends, ends_by_budget, input_shown, memory_told, refused_cause, refused_ends, rose_earlier, unnamed_ends, unsaid_ends}
+use Rattle.mk_run.proofs.Refusals.{empty_is_few, empty_ends, ends_by_budget, input_shown, left_book, memory_told, refused_cause, refused_ends, rose_earlier, unnamed_ends, unsaid_ends}
 use Rattle.mk_run.proofs.WordsNamed.{one_project}
 use Rattle.mk_run.proofs.run.run_alone.Goals as goal
 use Rattle.mk_run.proofs.run.run_alone.Goals.{Joined-refusal-2}
@@ -98,6 +98,9 @@ returns-in-Ok-clause-shown g c =
     subst (λ (b : Book). InputIsShown b.input after status) (sym c.keep_fault.ensures)
     (input_shown book fault status (memory_told c.in-Some.project.now (book_with book fault) fault c.in-Ok.refusal status c.say-in-Ok.ensures.status (refusal_so g c)) between after c.say-in-Ok.ensures.state c.in-Err.ensures.book c.in-Err.ensures.shown)
 
+pub returns-in-Ok-clause-cause : goal.returns-in-Ok-clause-cause
+returns-in-Ok-clause-cause g c = cause_so g c
+
 pub returns-in-Ok-clause-told : goal.returns-in-Ok-clause-told
 returns-in-Ok-clause-told g c = ends_so g c
 
@@ -112,6 +115,10 @@ returns-in-Ok-clause-decided g c =
     (decided project book before after status (cause_so g c))
 
 -- ---- a refusal for whose line there was no memory
+pub returns-in-Err-refusal-clause-cause : goal.returns-in-Err-refusal-clause-cause
+returns-in-Err-refusal-clause-cause g c =
+    subst HasLeftBook (sym c.keep_fault.ensures) (left_book c.answer.new.book c.in-Err.fault (g.F.Folder.state c.answer.new.folder) c.in-Err.ensures.book)
+
 pub returns-in-Err-refusal-clause-told : goal.returns-in-Err-refusal-clause-told
 returns-in-Err-refusal-clause-told g c =
     λ project names.

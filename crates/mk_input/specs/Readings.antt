@@ -60,8 +60,9 @@ IsShownBy after (FileSize file read) = (after.found ≡ Some Here) × (read ≡ 
 IsShownBy after (Table file fault) = (after.found ≡ Some Here) × (after.given ≤ FILE_LIMIT)
 IsShownBy after (NoGrade fault) = after.given ≤ FILE_LIMIT
 
--- Each fault is as the folder showed it, and one byte more than the limit was given only where a file is too long, unless
--- memory ran out.
+-- Each fault is as the folder showed it, one byte more than the limit was given only where a file is too long, unless
+-- memory ran out, and no reading that was answered Absent is one that failed.
 pub record IsShown {T : Type 0} (after : State) (result : Result T ReadFault) : Type 0 where
   pub faulty : (fault : InputFault) → IsErrOf result (Input fault) → IsShownBy after fault
   pub too_long : after.given ≡ FILE_LIMIT + 1 → ((file : InputFile) × IsErrOf result (Input (FileSize file (FILE_LIMIT + 1)))) ⊎ IsErrOf result Memory
+  pub failed : IsErrOf result Failed → ¬ (after.found ≡ Some Absent)

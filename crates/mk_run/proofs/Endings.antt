@@ -9,7 +9,6 @@ use Rattle.mk_desk.specs.Transfers.{SaysAll}
 use Rattle.mk_desk.specs.declared.folder.DeskFault.{DeskFault}
 use Rattle.mk_desk.specs.declared.folder.Channel.TheVariants.{Err as OnErrors}
 use Rattle.mk_writer.specs.Writing.{text_of, WritesMoves}
-use Rattle.mk_writer.specs.declared.fault.WriteFault.{WriteFault}
 use Rattle.mk_run.specs.Runs.{mar_name, SaysLine}
 use Rattle.mk_run.specs.Stages.{WritesAnswer}
 
@@ -43,7 +42,7 @@ module _ (project : List ℕ) (list : MoveListView) where
   abbrev text : List ℕ
   text = text_of list
 
-  pub writing_refused : (result : Result Unit WriteFault) → IsErr result → (x y : Desk) → (y ≡ x) ⊎ ((count : ℕ) × (y ≡ record x { made_name = mar_name project; made = take count text })) → WritesAnswer project list result x y
+  pub writing_refused : (result : Result Unit DeskFault) → IsErr result → (x y : Desk) → (y ≡ x) ⊎ ((count : ℕ) × (y ≡ record x { made_name = mar_name project; made = take count text })) → WritesAnswer project list result x y
   writing_refused (Ok done) e x y h = absurd (false≢true e)
   writing_refused (Err fault) e x y h = h
 
@@ -52,11 +51,11 @@ module _ (project : List ℕ) (list : MoveListView) where
   made_so name piece same x y z p q =
       q ∙ ap (λ (d : Desk). record d { made = d.made ++ piece }) p ∙ ap (λ n. record x { made_name = n; made = piece }) same
 
-  pub front_made : (result : Result Unit WriteFault) → IsErr result → (name : List ℕ) → name ≡ mar_name project → (x y z : Desk) → y ≡ record x { made_name = name; made = [] } → (count : ℕ) × (z ≡ record y { made = y.made ++ take count text }) → WritesAnswer project list result x z
+  pub front_made : (result : Result Unit DeskFault) → IsErr result → (name : List ℕ) → name ≡ mar_name project → (x y z : Desk) → y ≡ record x { made_name = name; made = [] } → (count : ℕ) × (z ≡ record y { made = y.made ++ take count text }) → WritesAnswer project list result x z
   front_made result e name same x y z p q =
       writing_refused result e x z (inr (q.0, made_so name (take q.0 text) same x y z p q.1))
 
-  pub whole_made : (result : Result Unit WriteFault) → IsErr result → (name : List ℕ) → name ≡ mar_name project → (x y z w : Desk) → y ≡ record x { made_name = name; made = [] } → z ≡ record y { made = y.made ++ text } → w ≡ z → WritesAnswer project list result x w
+  pub whole_made : (result : Result Unit DeskFault) → IsErr result → (name : List ℕ) → name ≡ mar_name project → (x y z w : Desk) → y ≡ record x { made_name = name; made = [] } → z ≡ record y { made = y.made ++ text } → w ≡ z → WritesAnswer project list result x w
   whole_made result e name same x y z w p q r =
       let cut : take (length text) text ≡ text = take_all (length text) text (omega arith) in
       front_made result e name same x y w p (length text, r ∙ q ∙ ap (λ t. record y { made = y.made ++ t }) (sym cut))
@@ -70,6 +69,6 @@ module _ (project : List ℕ) (list : MoveListView) where
       ∙ ap (λ m. record x { files = insert x.files (mar_name project) text; made_name = w.made_name; made = m }) (sym (ap (λ (d : Desk). d.made) ended))
 
   -- begun, and the text put whole or in part
-  pub text_made : (name : List ℕ) → name ≡ mar_name project → (result : Result Unit WriteFault) → IsErr result → (x y z : Desk) → y ≡ record x { made_name = name; made = [] } → WritesMoves list result y z → WritesAnswer project list result x z
+  pub text_made : (name : List ℕ) → name ≡ mar_name project → (result : Result Unit DeskFault) → IsErr result → (x y z : Desk) → y ≡ record x { made_name = name; made = [] } → WritesMoves list result y z → WritesAnswer project list result x z
   text_made name same (Ok done) e x y z p q = absurd (false≢true e)
   text_made name same (Err fault) e x y z p q = front_made (Err fault) refl name same x y z p q

@@ -1,5 +1,6 @@
 pub mod Endings
+pub mod Refusals
 pub mod Solved
-pub mod Stops
-pub mod Shown
+pub mod FewRows
+pub mod Decided
 pub mod WordsNamed

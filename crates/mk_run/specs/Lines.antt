@@ -1,9 +1,41 @@
--- The lines that a run may say.
-use Rattle.std.specs.Prelude.{◌≡◌, ◌⊎◌, ℕ, List, Some}
-use Rattle.mk_lines.specs.Lines.{folder_line, memory_line, input_line, stop_line}
+-- The one line on the error channel for each refusal that isn't of the input.
+use Rattle.std.specs.Prelude.{◌≡◌, ◌⊎◌, ℕ, ◌+◌, List, ◌++◌, Some, codes, decimal, string_bytes}
+use Rattle.std.specs.Fmt.{signed_decimal}
+use Rattle.mk_move.specs.declared.steps.OverflowAt.{OverflowAt}
+use Rattle.mk_project.specs.Lines.{input_line}
+use Rattle.mk_project.specs.declared.fault.InputFault.{InputFault}
 use Rattle.mk_solve.specs.Books.{Book}
 use Rattle.mk_solve.specs.declared.book.BookStop.{BookStop}
-use Rattle.mk_solve.specs.declared.fault.InputFault.{InputFault}
+use Rattle.mk_solve.specs.declared.book.BookStop.TheVariants as why
+use Rattle.mk_run.specs.declared.lines.Line.{Line}
+use Rattle.mk_run.specs.declared.lines.Line.TheVariants.{Folder, Memory, Made}
+
+abbrev pub usage_line : List ℕ
+usage_line = codes "usage: markov [--workers N] [--budget N] PROJECT or markov [--workers N] [--budget N] --model RxC[xD]\n"
+
+abbrev pub folder_line : List ℕ
+folder_line = codes "markov: a file or stream failed\n"
+
+abbrev pub memory_line : List ℕ
+memory_line = codes "markov: out of memory\n"
+
+-- the column, counted from 1, where `left - times * right` left the range, and the three numbers
+abbrev pub overflow_line : OverflowAt → List ℕ
+overflow_line at =
+    codes "markov: overflow in column " ++ decimal (at.column + 1) ++ codes ": " ++ signed_decimal at.left ++ codes " - ("
+    ++ signed_decimal at.times ++ codes ") * (" ++ signed_decimal at.right ++ codes ")\n"
+
+abbrev pub budget_line : ℕ → List ℕ
+budget_line settled = codes "markov: budget of " ++ decimal settled ++ codes " pairs used and a pair is left\n"
+
+abbrev pub full_line : List ℕ
+full_line = codes "markov: basis holds 65536 moves and needs another\n"
+
+-- the line for why a run stopped
+abbrev pub stop_line : BookStop → List ℕ
+stop_line (why.Overflow place stop) = overflow_line stop.at
+stop_line (why.Budget settled) = budget_line settled
+stop_line (why.BasisFull phase i j) = full_line
 
 -- the lines that a run may say for this project: those of its book's fault and stop, and two more
 abbrev pub IsLine : List ℕ → Book → List ℕ → Type 0
@@ -11,3 +43,9 @@ IsLine project book line =
     (line ≡ folder_line) ⊎ (line ≡ memory_line)
     ⊎ ((fault : InputFault) × (book.input ≡ Some fault) × (line ≡ input_line project fault))
     ⊎ ((stop : BookStop) × (book.stop ≡ Some stop) × (line ≡ stop_line stop))
+
+-- the text of a line
+abbrev pub text_of_line : Line → List ℕ
+text_of_line Folder = folder_line
+text_of_line Memory = memory_line
+text_of_line (Made line) = string_bytes line

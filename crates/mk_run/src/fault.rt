@@ -1,6 +1,7 @@
+use mk_desk::DeskFault;
 use mk_input::ReadFault;
-use mk_solve::{InputFault, RunStop};
-use mk_writer::WriteFault;
+use mk_project::InputFault;
+use mk_solve::RunStop;
 
 /// Why a run has no answer: `Stopped` where the book has a stop.
 #[derive(Clone, Copy, Debug, PartialEq, Eq)]
@@ -40,16 +41,16 @@ impl From<RunStop> for RunFault {
     }
 }
 
-impl From<WriteFault> for RunFault {
+impl From<DeskFault> for RunFault {
     ghost use Rattle.std.specs.Prelude.{◌≡◌};
     ghost use Rattle.mk_run.specs.Stages.{write_refused};
 
     ghost from_gives = { λ fault e. e ≡ write_refused fault };
 
-    fn from(fault: WriteFault) -> RunFault {
+    fn from(fault: DeskFault) -> RunFault {
         match fault {
-            WriteFault::Memory => RunFault::Memory,
-            WriteFault::Failed => RunFault::Failed,
+            DeskFault::Memory => RunFault::Memory,
+            DeskFault::Failed => RunFault::Failed,
         }
     }
 }

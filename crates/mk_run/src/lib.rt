@@ -2,16 +2,20 @@
 #![tactic(auto)]
 
 mod fault;
+mod lines;
+mod refusal;
 mod run;
 mod status;
 mod words;
 
+pub use lines::stop_line;
 pub use mk_desk::{Channel, Folder, MemoryFolder, RealFolder, SureFolder};
 pub use mk_files::{Place, TableFault};
 pub use mk_grading::GradeFault;
+pub use mk_project::{InputFault, InputFile};
 pub use mk_solve::{
-    BookStop, InputFault, InputFile, Journal, JournalEntry, Kind, OverflowPlace, OverflowStop,
-    Phase, RunBook,
+    BookStop, Journal, JournalEntry, Kind, OverflowPlace, OverflowStop, Phase, RunBook, RunStop,
+    solve_alone,
 };
 pub use run::run_alone;
 pub use status::Status;

@@ -1,3 +1,8 @@
+ghost use Rattle.std.specs.Prelude.{◌≡◌};
+ghost use Rattle.mk_run.specs.Statuses.{code_of, status_of};
+
+use mk_solve::BookStop;
+
 /// How a run ended. The number is the program's exit status.
 #[derive(Clone, Copy, Debug, PartialEq, Eq)]
 pub enum Status {
@@ -21,7 +26,20 @@ pub enum Status {
 
 impl Status {
     /// The exit status of the program.
-    pub fn code(self) -> u8 {
+    pub fn code(self) -> u8
+        ensures { result ≡ code_of self }
+    {
         self as u8
+    }
+
+    /// How a run ends that stopped.
+    pub(crate) fn of_stop(stop: &BookStop) -> Status
+        ensures { result ≡ status_of stop.now }
+    {
+        match stop {
+            BookStop::Overflow { .. } => Status::Overflow,
+            BookStop::Budget { .. } => Status::Budget,
+            BookStop::BasisFull { .. } => Status::Full,
+        }
     }
 }

@@ -7,9 +7,9 @@ use Rattle.mk_desk.specs.declared.folder.DeskFault.TheVariants.{Failed}
 use Rattle.mk_desk.specs.declared.folder.Channel.TheVariants.{Err as OnErrors}
 use Rattle.mk_desk.proofs.Telling.{where_told_weaker}
 use Rattle.mk_run.proofs.Endings.{line_said}
-use Rattle.mk_run.proofs.run.refuse.Goals as goal
-use Rattle.mk_run.proofs.run.refuse.Goals.{After-say_all}
-use Rattle.mk_run.proofs.run.refuse.Given.{Over}
+use Rattle.mk_run.proofs.run.say.Goals as goal
+use Rattle.mk_run.proofs.run.say.Goals.{After-say_all}
+use Rattle.mk_run.proofs.run.say.Given.{Over}
 
 -- the line, or a front of it where there is a reason
 told : (g : Over) (c : After-say_all g) (reason : Type 0) → ((fault : DeskFault) → c.say_all.result ≡ Err fault → reason) → WhereTold (g.F.Folder.told c.args.folder.now) (g.F.Folder.told c.say_all.new.folder) (SaysLine c.args.line.now reason)

@@ -55,9 +55,9 @@ fn assert_calls<'a>(
     made: &str,
     calls: u64,
 ) -> Result<(), Fail> {
-    let folder = assert_run(rt, &["P"], &files, chunk, &failing, wanted, &files)?;
-    assert_eq!(rt; folder.made(), made.as_bytes(), "{files:?}");
-    assert_eq!(rt; folder.calls(), calls, "{files:?}");
+    let ended = assert_run(rt, &["P"], &files, chunk, &failing, wanted, &files)?;
+    assert_eq!(rt; ended.folder.made(), made.as_bytes(), "{files:?}");
+    assert_eq!(rt; ended.folder.calls(), calls, "{files:?}");
     Ok(())
 }
 

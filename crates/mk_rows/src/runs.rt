@@ -23,6 +23,13 @@ pub(crate) const MARGINS: &str =
 pub(crate) const NINE_MOVES: &str =
     "9 9\n0 0 0 0 -1 1 0 1 -1\n0 -1 1 0 0 0 0 1 -1\n0 0 0 -1 0 1 1 0 -1\n0 0 0 -1 1 0 1 -1 0\n-1 0 1 0 0 0 1 0 -1\n-1 1 0 0 0 0 1 -1 0\n0 -1 1 0 1 -1 0 0 0\n-1 0 1 1 0 -1 0 0 0\n-1 1 0 1 -1 0 0 0 0\n";
 
+// What a run left.
+#[derive(Drop)]
+pub(crate) struct Ended {
+    pub(crate) folder: MemoryFolder,
+    pub(crate) book: RunBook,
+}
+
 // Runs on the words over files with these names and texts, in a folder that moves so many bytes a call and where the calls with
 // these numbers fail. The run ends with this status, says this on the error channel alone, and leaves these files and no other.
 pub(crate) fn assert_run(
@@ -33,7 +40,7 @@ pub(crate) fn assert_run(
     failing: &[u64],
     wanted: (Status, &str),
     after: &[(&str, &str)],
-) -> Result<MemoryFolder, Fail> {
+) -> Result<Ended, Fail> {
     let alloc = rt.alloc();
     let mut texts = Vec::new(alloc);
     for word in words {
@@ -63,7 +70,7 @@ pub(crate) fn assert_run(
         );
     }
     assert_eq!(rt; folder.len(), after.len());
-    Ok(folder)
+    Ok(Ended { folder, book })
 }
 
 // The files by their names.

@@ -40,7 +40,7 @@ fn words_name_a_project_or_none(rt: HostRuntime) -> Result<(), Fail> {
         let given = (lattice, "1 2\n-2 2\n");
         let made = (answer, "1 2\n2 -2\n");
         if answer == "" {
-            let folder = assert_run(
+            let ended = assert_run(
                 &rt,
                 words,
                 &[given],
@@ -49,7 +49,7 @@ fn words_name_a_project_or_none(rt: HostRuntime) -> Result<(), Fail> {
                 (Status::Usage, USAGE),
                 &[given],
             )?;
-            assert_eq!(rt; folder.calls(), 1);
+            assert_eq!(rt; ended.folder.calls(), 1);
         } else {
             assert_run(
                 &rt,

@@ -1,7 +1,7 @@
 -- How solving a table ends, from how solving its rows does; and a run whose budget is used while a pair is left has stopped by it.
-use Rattle.std.proofs.Common.{◌≡◌, ℕ, List, length, ℤ, None, Some, Option, Result, Ok, Err, ap, sym, ◌∙◌, subst, refl}
+use Rattle.std.proofs.Common.{◌≡◌, ℕ, List, length, ℤ, Some, Option, Result, Ok, Err, ap, sym, ◌∙◌, subst, refl}
 use Rattle.std.specs.Option.{option_map}
-use Rattle.mk_model.specs.Books.{PlainStop, IsBudgetUsed, IsNoOtherStop, HasStopped}
+use Rattle.mk_model.specs.Books.{IsNoOtherStop, HasStopped}
 use Rattle.mk_model.specs.Lattices.{Lattice, lattice_of}
 use Rattle.mk_model.specs.Tables.{Grid, rows_of, lattice_of_table}
 use Rattle.mk_model.proofs.BookLaws.{ended_not_used}

@@ -1,5 +1,5 @@
 -- The reduced basis of a run, and why there is none.
-use Rattle.std.proofs.Common.{◌≡◌, ℕ, List, [], length, Err, Some, ℤ, ap, sym, ◌∙◌, subst, refl}
+use Rattle.std.proofs.Common.{◌≡◌, ℕ, List, [], length, Err, Some, ℤ, ap, sym, subst, refl}
 use Rattle.std.specs.Option.{option_map}
 use Rattle.mk_model.specs.Books.{BookIsComplete}
 use Rattle.mk_model.specs.Lattices.{lattice_of, SameLattice}
@@ -7,7 +7,7 @@ use Rattle.mk_model.specs.ReducedBases.{IsReducedBasis}
 use Rattle.mk_move.specs.MoveLists.{BasisView, vectors_of}
 use Rattle.mk_inter.proofs.SameLattices.{SameLattice-back, basis_of_others}
 use Rattle.mk_saturate.proofs.Spans.{SameLattice-transitive}
-use Rattle.mk_solve.specs.Books.{Book, phases_as, book_as}
+use Rattle.mk_solve.specs.Books.{Book, book_as}
 use Rattle.mk_solve.specs.Solutions.{Solves}
 use Rattle.mk_solve.specs.Steps.{IsReducedOf, KeepsTailStop, Reduces}
 use Rattle.mk_solve.specs.declared.book.BookStop.TheVariants.{Overflow}

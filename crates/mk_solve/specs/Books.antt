@@ -1,5 +1,5 @@
 -- What a run's book is seen as, and what it says as plain data.
-use Rattle.std.specs.Prelude.{◌≡◌, ℕ, ◌+◌, ◌<◌, ◌^◌, List, [], length, map, Option, None}
+use Rattle.std.specs.Prelude.{◌≡◌, ℕ, ◌<◌, ◌^◌, List, [], length, map, Option, None}
 use Rattle.std.specs.Option.{option_map}
 use Rattle.mk_model.specs.Books.{PlainPhase, PlainBook, PlainPlace, PlainStop, settled_in}
 use Rattle.mk_model.specs.Books.PlainPlace.{AtPair, AtTail, AtWeight}

@@ -1,5 +1,5 @@
 -- How solving a lattice ends, by what the book of the run keeps. (Sturmfels, chapters 1, 5 and 12; Hemmecke and Malkin 2009)
-use Rattle.std.specs.Prelude.{◌≡◌, ℕ, ◌≤◌, List, length, All, None, Some, Result, Ok, Err, IfSome, ℤ}
+use Rattle.std.specs.Prelude.{◌≡◌, ℕ, ◌≤◌, List, All, None, Some, Result, Ok, Err, IfSome, ℤ}
 use Rattle.std.specs.Option.{option_map}
 use Rattle.mk_model.specs.Bases.{IsMinimalMarkovBasis}
 use Rattle.mk_model.specs.Books.{BookIsComplete, BookIsUnderWay, HasStopped, IsBudgetUsed, IsNoOtherStop}

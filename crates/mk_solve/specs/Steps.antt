@@ -1,5 +1,5 @@
 -- What the steps of a run give, and what they leave in the book.
-use Rattle.std.specs.Prelude.{◌≡◌, ℕ, ◌<◌, List, [], ◌∷◌, ◌++◌, length, All, Bool, false, set, Some, Result, Ok, Err, ℤ}
+use Rattle.std.specs.Prelude.{◌≡◌, ℕ, ◌<◌, List, [], ◌∷◌, ◌++◌, length, All, Bool, false, set, Some, Result, Ok, Err}
 use Rattle.mk_model.specs.Bases.{IsAnswer}
 use Rattle.mk_model.specs.CoreStates.{pair_of}
 use Rattle.mk_model.specs.Lattices.{SameLattice}

@@ -1,11 +1,10 @@
-use Rattle.std.proofs.Common.{◌-◌, ◌∙◌, length, sym, refl, subst, Some, Option, Result, []}
+use Rattle.std.proofs.Common.{◌-◌, ◌∙◌, length, sym, subst, Some, Option, []}
 use Rattle.mk_model.specs.Orders.{standard}
 use Rattle.mk_model.specs.Tables.{rows_of}
-use Rattle.mk_move.specs.MoveLists.{MoveListView, vectors_of}
+use Rattle.mk_move.specs.MoveLists.{vectors_of}
 use Rattle.mk_core.specs.declared.phase.Job.{Job}
 use Rattle.mk_saturate.specs.Saturations.{NoneLeft, IsJob, IsNextJob}
 use Rattle.mk_solve.specs.Books.{Book, settled_of}
-use Rattle.mk_solve.specs.declared.solving.RunStop.{RunStop}
 use Rattle.mk_solve.specs.declared.solving.RunStop.TheVariants.{Memory}
 use Rattle.mk_solve.proofs.Endings.{table_solves, table_refused, solves_by_budget}
 use Rattle.mk_solve.proofs.Faults.{the_error}

@@ -1,11 +1,11 @@
-ghost use Rattle.std.specs.Prelude.{◌≡◌, ◌≤◌, ◌<◌, length, IfOk};
+ghost use Rattle.std.specs.Prelude.{◌<◌, length, IfOk};
 ghost use Rattle.mk_model.specs.CoreStates.{pair_of};
-ghost use Rattle.mk_core.specs.GoingOn.{NoneClaims};
 ghost use Rattle.mk_core.specs.Remainders.{IsNormalRest};
 
-use crate::bases::{assert_move, assert_moves, twisted_cubic};
-use crate::lower::finder_of;
-use mk_core::{Job, Journal, JournalEntry, Kind, Phase, Stopped, complete_alone, finish_alone};
+use crate::shown::{assert_moves, start_of};
+use mk_core::{
+    Completed, Job, JournalEntry, Kind, Phase, Stopped, complete_alone, finder_of, finish_alone,
+};
 use mk_ledger::{Claim, Halt, Ledger, PlaceFault};
 use mk_move::{Basis, Move};
 use mk_reduce::{critical, reduce};
@@ -13,116 +13,83 @@ use std::alloc::AllocGlobal;
 use std::process::Abort;
 use std::test::Fail;
 
-const MOVES: [[i128; 4]; 3] = [[1, -2, 1, 0], [0, -1, 2, -1], [1, -1, -1, 1]];
+const MOVES: [&str; 2] = [
+    "2 4\n1 -2 1 0\n0 -1 2 -1\n",
+    "3 4\n1 -2 1 0\n0 -1 2 -1\n1 -1 -1 1\n",
+];
 
-const PLACED: JournalEntry = JournalEntry {
-    i: 0,
-    j: 1,
-    third: 2,
-    worker: 0,
-    kind: Kind::Place,
-};
+const ENTRIES: [JournalEntry; 3] = [
+    JournalEntry {
+        i: 0,
+        j: 1,
+        third: 2,
+        worker: 0,
+        kind: Kind::Place,
+    },
+    JournalEntry {
+        i: 0,
+        j: 2,
+        third: 0,
+        worker: 0,
+        kind: Kind::Zero,
+    },
+    JournalEntry {
+        i: 1,
+        j: 2,
+        third: 0,
+        worker: 0,
+        kind: Kind::Zero,
+    },
+];
 
-const FIRST_ZERO: JournalEntry = JournalEntry {
-    i: 0,
-    j: 2,
-    third: 0,
-    worker: 0,
-    kind: Kind::Zero,
-};
-
-const SECOND_ZERO: JournalEntry = JournalEntry {
-    i: 1,
-    j: 2,
-    third: 0,
-    worker: 0,
-    kind: Kind::Zero,
-};
-
-// The journal has these entries and no other.
-fn assert_journal(rt: &impl Abort, journal: &Journal, entries: &[JournalEntry]) {
-    assert_eq!(rt; journal.len(), entries.len() as u64);
-    for (n, entry) in entries.iter().enumerate() {
-        assert_eq!(rt; journal.entry_at(n as u64), *entry, "entry {n}");
+// How a completion ends, with its phase.
+fn ending_of(rt: &impl Abort, outcome: Result<Completed, Stopped>) -> (&'static str, Phase) {
+    match outcome {
+        Ok(completed) => ("completed", completed.into_phase()),
+        Err(Stopped::OverBudget { phase }) => ("over budget", phase),
+        Err(Stopped::BasisFull { phase, i: 0, j: 1 }) => ("full", phase),
+        Err(other) => panic!(rt; "{other:?}"),
     }
 }
 
-// The phase began with two moves, and has these moves and these entries.
-fn assert_phase(rt: &impl Abort, phase: &Phase, moves: &[[i128; 4]], entries: &[JournalEntry]) {
-    assert_eq!(rt; phase.start_len, 2);
-    assert_moves(rt, &phase.basis, moves);
-    assert_journal(rt, &phase.journal, entries);
-}
-
-// The job of the twisted cubic, with so many pairs and moves at most.
-fn job_within(rt: &(impl Abort + AllocGlobal), budget: u64, basis_limit: u32) -> Result<Job, Fail>
-    requires room { 2 ≤ basis_limit }
-    requires limit { basis_limit ≤ 65536 }
-    ensures start { IfOk result (λ job. length job.start.moves ≤ job.basis_limit) }
-    ensures limit { IfOk result (λ job. job.basis_limit ≤ 65536) }
-{
-    let start = twisted_cubic(rt)?;
-    Ok(Job {
-        start,
-        budget,
-        basis_limit,
-    })
-}
-
+// The completion of two moves of the twisted cubic, along the list of column 1, within a budget and a limit of moves: how it ends,
+// with how many moves and entries. A ledger of two workers that nobody has claimed from goes on as a job does.
 #[test]
-fn one_worker_completes(rt: HostRuntime) -> Result<(), Fail> {
-    let job = job_within(&rt, 3, 65_536)?;
-    let completed = complete_alone(rt.alloc(), job)?;
-    let entries = [PLACED, FIRST_ZERO, SECOND_ZERO];
-    assert_phase(&rt, completed.phase(), &MOVES, &entries);
-    Ok(())
-}
-
-#[test]
-fn one_worker_stops_over_budget(rt: HostRuntime) -> Result<(), Fail> {
-    let job = job_within(&rt, 2, 65_536)?;
-    match complete_alone(rt.alloc(), job) {
-        Err(Stopped::OverBudget { phase }) => {
-            assert_phase(&rt, &phase, &MOVES, &[PLACED, FIRST_ZERO]);
+fn completions_end(rt: HostRuntime) -> Result<(), Fail> {
+    let rows = [
+        (3, 65_536, "completed", MOVES[1], 3),
+        (2, 65_536, "over budget", MOVES[1], 2),
+        (3, 2, "full", MOVES[0], 0),
+    ];
+    for (budget, limit, wanted, moves, count) in rows {
+        for is_ledger in [false, true] {
+            let start = start_of(&rt, MOVES[0], Some(1))?;
+            assert!(rt; start.len() <= limit);
+            assert!(rt; limit <= 65_536);
+            let outcome = if is_ledger {
+                finish_alone(
+                    rt.alloc(),
+                    Ledger::new(rt.alloc(), start, budget, limit, 2)?,
+                )
+            } else {
+                let job = Job {
+                    start,
+                    budget,
+                    basis_limit: limit,
+                };
+                complete_alone(rt.alloc(), job)
+            };
+            let (ending, phase) = ending_of(&rt, outcome);
+            assert_eq!(rt; ending, wanted);
+            assert_eq!(rt; phase.start_len, 2);
+            assert_moves(&rt, &phase.basis, moves)?;
+            assert_eq!(rt; phase.journal.len(), count);
+            assert!(rt; count <= 3);
+            for n in 0..count {
+                assert_eq!(rt; phase.journal.entry_at(n), ENTRIES[n as usize]);
+            }
         }
-        outcome => panic!(rt; "not over budget: {outcome:?}"),
     }
-    Ok(())
-}
-
-#[test]
-fn one_worker_stops_at_a_full_basis(rt: HostRuntime) -> Result<(), Fail> {
-    let job = job_within(&rt, 3, 2)?;
-    match complete_alone(rt.alloc(), job) {
-        Err(Stopped::BasisFull { phase, i, j }) => {
-            assert_eq!(rt; (i, j), (0, 1));
-            assert_phase(&rt, &phase, &MOVES[..2], &[]);
-        }
-        outcome => panic!(rt; "not full: {outcome:?}"),
-    }
-    Ok(())
-}
-
-// A ledger of the twisted cubic for two workers, with so many claims and moves at most.
-fn two_workers(
-    rt: &(impl Abort + AllocGlobal),
-    budget: u64,
-    basis_limit: u32,
-) -> Result<Ledger, Fail>
-    requires room { 2 ≤ basis_limit }
-    requires limit { basis_limit ≤ 65536 }
-    ensures { IfOk result (λ ledger. NoneClaims ledger.state) }
-{
-    let start = twisted_cubic(rt)?;
-    Ok(Ledger::new(rt.alloc(), start, budget, basis_limit, 2)?)
-}
-
-#[test]
-fn one_worker_finishes(rt: HostRuntime) -> Result<(), Fail> {
-    let ledger = two_workers(&rt, 3, 65_536)?;
-    let completed = finish_alone(rt.alloc(), ledger)?;
-    let entries = [PLACED, FIRST_ZERO, SECOND_ZERO];
-    assert_phase(&rt, completed.phase(), &MOVES, &entries);
     Ok(())
 }
 
@@ -131,32 +98,6 @@ fn answer_for(rt: &impl Abort, ledger: &mut Ledger, worker: u32) -> Claim {
     assert!(rt; worker < ledger.workers());
     assert!(rt; ledger.claim_of(worker).is_none());
     ledger.claim(worker)
-}
-
-#[test]
-fn a_ledger_begins(rt: HostRuntime) -> Result<(), Fail> {
-    let ledger = two_workers(&rt, 3, 65_536)?;
-    assert_eq!(rt; ledger.workers(), 2);
-    assert_eq!(rt; ledger.claim_of(0), None);
-    assert_eq!(rt; ledger.claim_of(1), None);
-    assert_eq!(rt; ledger.claims_made(), 0);
-    assert_eq!(rt; ledger.settled_count(), 0);
-    assert_moves(&rt, ledger.basis(), &MOVES[..2]);
-    Ok(())
-}
-
-#[test]
-fn a_pair_is_claimed_once(rt: HostRuntime) -> Result<(), Fail> {
-    let mut ledger = two_workers(&rt, 3, 65_536)?;
-    let first = Claim::Claimed { i: 0, j: 1 };
-    assert_eq!(rt; answer_for(&rt, &mut ledger, 0), first);
-    let claimed = Claim::NotYet {
-        worker: 0,
-        i: 0,
-        j: 1,
-    };
-    assert_eq!(rt; answer_for(&rt, &mut ledger, 1), claimed);
-    Ok(())
 }
 
 // What is left of the difference of a pair, reduced by the basis.
@@ -170,7 +111,7 @@ fn remainder_of(
     requires within { j < length basis.now.moves }
     ensures { IfOk result (IsNormalRest basis.now (pair_of i j)) }
 {
-    let finder = finder_of(rt, basis)?;
+    let finder = finder_of(rt.alloc(), basis)?;
     let mut work = critical(rt.alloc(), basis, i, j)?;
     reduce(rt.alloc(), &mut work, basis, &finder)?;
     match work.into_remainder() {
@@ -179,7 +120,7 @@ fn remainder_of(
     }
 }
 
-// The first worker, who has the pair of the two moves as its claim, settles it by what is left of its difference.
+// The first of two workers, who has the pair of the two moves as its claim, settles it by what is left of its difference.
 fn place_first(
     rt: &(impl Abort + AllocGlobal),
     ledger: &mut Ledger,
@@ -189,46 +130,42 @@ fn place_first(
     assert_eq!(rt; ledger.basis().len(), 2);
     let mut remainder = remainder_of(rt, ledger.basis(), 0, 1)?;
     remainder.orient(ledger.basis().priority());
-    assert_move(rt, &remainder, &MOVES[2]);
     Ok(ledger.settle_place(0, 2, remainder))
 }
 
+// Two workers on the twisted cubic, within a budget and a limit: the first claims the pair, which the other isn't given, and settles
+// it by a move; then each asks for a pair.
 #[test]
-fn a_move_is_placed(rt: HostRuntime) -> Result<(), Fail> {
-    let mut ledger = two_workers(&rt, 3, 65_536)?;
-    let first = Claim::Claimed { i: 0, j: 1 };
-    assert_eq!(rt; answer_for(&rt, &mut ledger, 0), first);
-    let placed = place_first(&rt, &mut ledger)?;
-    assert!(rt; matches!(placed, Ok(2)), "{placed:?}");
+fn a_ledger_answers_two_workers(rt: HostRuntime) -> Result<(), Fail> {
     let next = Claim::Claimed { i: 0, j: 2 };
-    assert_eq!(rt; answer_for(&rt, &mut ledger, 1), next);
     let last = Claim::Claimed { i: 1, j: 2 };
-    assert_eq!(rt; answer_for(&rt, &mut ledger, 0), last);
-    Ok(())
-}
-
-#[test]
-fn a_budget_is_used_up(rt: HostRuntime) -> Result<(), Fail> {
-    let mut ledger = two_workers(&rt, 1, 65_536)?;
-    let first = Claim::Claimed { i: 0, j: 1 };
-    assert_eq!(rt; answer_for(&rt, &mut ledger, 0), first);
-    let placed = place_first(&rt, &mut ledger)?;
-    assert!(rt; matches!(placed, Ok(2)), "{placed:?}");
     let over = Claim::OverBudget { made: 1 };
-    assert_eq!(rt; answer_for(&rt, &mut ledger, 0), over);
-    Ok(())
-}
-
-#[test]
-fn a_full_basis_halts(rt: HostRuntime) -> Result<(), Fail> {
-    let mut ledger = two_workers(&rt, 3, 2)?;
-    let first = Claim::Claimed { i: 0, j: 1 };
-    assert_eq!(rt; answer_for(&rt, &mut ledger, 0), first);
-    let placed = place_first(&rt, &mut ledger)?;
-    assert!(rt; matches!(placed, Err(PlaceFault::BasisFull)), "{placed:?}");
-    let halt = ledger.first_halt();
-    assert!(rt; matches!(halt, Some(Halt::Full { i: 0, j: 1 })), "{halt:?}");
     let stopped = Claim::Stopped { worker: 0 };
-    assert_eq!(rt; answer_for(&rt, &mut ledger, 1), stopped);
+    let rows = [
+        (3, 65_536, MOVES[1], next, last),
+        (1, 65_536, MOVES[1], over, over),
+        (3, 2, MOVES[0], stopped, stopped),
+    ];
+    for (budget, limit, moves, second, first) in rows {
+        let start = start_of(&rt, MOVES[0], Some(1))?;
+        assert!(rt; start.len() <= limit);
+        assert!(rt; limit <= 65_536);
+        let mut ledger = Ledger::new(rt.alloc(), start, budget, limit, 2)?;
+        let claimed = Claim::Claimed { i: 0, j: 1 };
+        assert_eq!(rt; answer_for(&rt, &mut ledger, 0), claimed);
+        let taken = Claim::NotYet {
+            worker: 0,
+            i: 0,
+            j: 1,
+        };
+        assert_eq!(rt; answer_for(&rt, &mut ledger, 1), taken);
+        let placed = place_first(&rt, &mut ledger)?;
+        assert_eq!(rt; placed.ok(), if limit == 2 { None } else { Some(2) });
+        let full = matches!(ledger.first_halt(), Some(Halt::Full { i: 0, j: 1 }));
+        assert_eq!(rt; full, limit == 2);
+        assert_moves(&rt, ledger.basis(), moves)?;
+        assert_eq!(rt; answer_for(&rt, &mut ledger, 1), second);
+        assert_eq!(rt; answer_for(&rt, &mut ledger, 0), first);
+    }
     Ok(())
 }

@@ -2,10 +2,10 @@
 #![tactic(auto)]
 
 #[cfg(test)]
-mod bases;
-#[cfg(test)]
 mod completions;
 #[cfg(test)]
-mod lower;
+mod pairs;
 #[cfg(test)]
-mod saturations;
+mod shown;
+#[cfg(test)]
+mod solutions;

@@ -1,5 +1,5 @@
 -- Changes of a folder that tells what it holds, one after another, and the faults behind them.
-use Rattle.std.proofs.Common.{◌≡◌, ℕ, ◌+◌, ◌≤◌, List, ◌++◌, take, drop, Option, Some, None, Result, IsErrOf, arith, refl, ap, sym, subst, ◌∙◌, append_assoc}
+use Rattle.std.proofs.Common.{◌≡◌, ℕ, ◌+◌, List, ◌++◌, take, drop, Option, Some, None, Result, IsErrOf, arith, ap, sym, subst, ◌∙◌, append_assoc}
 use Rattle.std.proofs.Math.Seq.{take-add}
 use Rattle.mk_desk.specs.Folders.{Desk, State, HasCause, OnlyFaultsRose, WhereTold, Rose, said}
 use Rattle.mk_desk.specs.declared.folder.DeskFault.{DeskFault}

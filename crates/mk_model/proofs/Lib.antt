@@ -26,6 +26,7 @@ pub mod DivisorWeights
 pub mod ReducedLaws
 pub mod MoveOrder
 pub mod BookLaws
+pub mod OneRowStops
 pub mod TheAnswer
 pub mod Components
 pub mod FiniteFibres
@@ -49,6 +50,7 @@ pub mod TokenExamples
 pub mod PairExamples
 pub mod ChainExamples
 pub mod HaltExamples
+pub mod BookExamples
 pub mod WalkExamples
 pub mod AnswerExamples
 pub mod TableExamples

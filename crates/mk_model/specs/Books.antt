@@ -1,6 +1,6 @@
 -- What the book of a run says of a lattice, as plain data: its phases, one after another, the reduced basis, and why it
 -- stopped. (Sturmfels, chapters 1, 5 and 12: saturation; Hemmecke and Malkin 2009. The book is this project's own.)
-use Rattle.std.specs.Prelude.{◌≡◌, ◌⊎◌, ℕ, ◌+◌, List, [], ◌∷◌, ◌++◌, length, Option, None, Some, ℤ}
+use Rattle.std.specs.Prelude.{◌≡◌, ◌⊎◌, ℕ, ◌+◌, ◌<◌, List, [], ◌∷◌, ◌++◌, length, Option, None, Some, ℤ}
 use Rattle.std.specs.List.{range_with_len, AllZip}
 use Rattle.mk_model.specs.CoreStates.{Pair, Settle, CoreState, OverflowStop, phase_state, start_of, IsFree}
 use Rattle.mk_model.specs.Events.{IsFull}
@@ -121,10 +121,11 @@ pub record StopsAtWeight (lattice : Lattice) (book : PlainBook) (stop : Overflow
   pub genuine : IsGenuineOverflow done.basis stop
 
 -- The cause of each stop, by what the book keeps: with a stop at a pair, by the budget or by a full basis a pair of the last
--- phase is not settled.
+-- phase is not settled, and it is by the budget exactly where as many pairs are settled as that has.
 abbrev pub HasStopped : Lattice → ℕ → PlainBook → PlainStop → Type 0
 HasStopped lattice budget book (Overflow (AtPair number) stop) =
     (phase : PlainPhase) × StandsAt lattice book number phase × IsFree (state_in phase) stop.pair × IsGenuineOverflow phase.basis stop
+    × (settled_in book.phases < budget)
 HasStopped lattice budget book (Overflow (AtTail index) stop) = StopsAtTail lattice book index stop
 HasStopped lattice budget book (Overflow AtWeight stop) = StopsAtWeight lattice book stop
 HasStopped lattice budget book (Budget settled) =
@@ -132,6 +133,7 @@ HasStopped lattice budget book (Budget settled) =
     × ((number : ℕ) × (phase : PlainPhase) × StandsAt lattice book number phase × ((pair : Pair) × IsFree (state_in phase) pair))
 HasStopped lattice budget book (Full number pair) =
     (phase : PlainPhase) × StandsAt lattice book number phase × IsFull (state_in phase) pair × IsFree (state_in phase) pair
+    × (settled_in book.phases < budget)
 
 -- the phases settled as many pairs as the budget has, and a pair of the last one is not settled
 pub record IsBudgetUsed (budget : ℕ) (book : PlainBook) : Type 0 where

@@ -3,6 +3,7 @@ use Rattle.std.specs.Prelude.{◌≡◌, ℕ, List, [], ◌∷◌, ◌++◌, Non
 use Rattle.mk_model.specs.Lattices.{Lattice, lattice_of, ones}
 use Rattle.mk_model.specs.Tables.{Grid, Limits}
 use Rattle.mk_model.specs.CoreStates.{Settle, pair_of, settle, CoreState, claim_of, halt_of, new_state, phase_state, Halt, OverflowStop, stop_at}
+use Rattle.mk_model.specs.Books.{PlainPhase, PlainBook}
 use Rattle.mk_model.specs.CoreStates.Way.{Coprime, Zero, Place}
 
 -- ---- two columns: (1 -1), (2 -2) and (4 -4)
@@ -239,3 +240,24 @@ tail_moves = tail_heavy ∷ like_first ∷ []
 
 abbrev pub tail_stop : OverflowStop
 tail_stop = stop_at (pair_of 0 0) (Some 1) (Some tail_heavy) 2 (neg_ℤ (pos 9223372036854775807)) (neg_ℤ (pos 1)) (neg_ℤ (pos 1))
+
+-- ---- books: of the lattice of (1 -1), whose phases have no pair
+abbrev pub unit_lattice : Lattice
+unit_lattice = lattice_of 2 (unit_move ∷ []) (ones 2)
+
+abbrev pub lone_phase : List ℕ → List ℤ → PlainPhase
+lone_phase list move = record { priority = list; start_length = 1; basis = move ∷ []; journal = [] }
+
+abbrev pub unit_book : PlainBook
+unit_book = record {
+  phases = lone_phase (0 ∷ 1 ∷ []) (neg_ℤ (pos 1) ∷ pos 1 ∷ []) ∷ lone_phase (1 ∷ 0 ∷ []) unit_move
+      ∷ lone_phase (1 ∷ 0 ∷ []) unit_move ∷ [];
+  reduced = Some (unit_move ∷ []);
+}
+
+-- and of the twisted cubic with a budget of 0 pairs: the phase of column 0 has settled none
+abbrev pub starved_book : PlainBook
+starved_book = record {
+  phases = record { priority = 0 ∷ 3 ∷ 2 ∷ 1 ∷ []; start_length = 2; basis = cubic_turned; journal = [] } ∷ [];
+  reduced = None;
+}

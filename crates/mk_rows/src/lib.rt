@@ -2,13 +2,11 @@
 #![tactic(auto)]
 
 #[cfg(test)]
-mod answers;
-#[cfg(test)]
 mod endings;
 #[cfg(test)]
 mod folders;
 #[cfg(test)]
-mod refusals;
+mod projects;
 #[cfg(test)]
 mod runs;
 #[cfg(test)]

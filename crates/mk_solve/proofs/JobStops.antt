@@ -1,9 +1,9 @@
 -- The phase of a job that completes, or that stops.
-use Rattle.std.proofs.Common.{◌≡◌, ℕ, ◌+◌, ◌≤◌, ◌<◌, ◌^◌, length, Err, arith, ap, sym, ◌∙◌}
+use Rattle.std.proofs.Common.{◌≡◌, inl, inr, refl, ℕ, ◌+◌, ◌≤◌, ◌<◌, ◌^◌, length, Err, arith, ap, sym, ◌∙◌}
 use Rattle.std.proofs.lemmas.List.{length-map}
 use Rattle.mk_ledger.specs.Entries.{settle_of}
 use Rattle.mk_ledger.specs.declared.halt.OverflowStop.{OverflowStop}
-use Rattle.mk_core.specs.Phases.{ledger_for, IsPhaseFrom, Finishes}
+use Rattle.mk_core.specs.Phases.{ledger_for, IsHaltedOrWithin, IsPhaseFrom, Finishes}
 use Rattle.mk_core.specs.declared.phase.Job.{Job}
 use Rattle.mk_core.specs.declared.phase.Phase.{Phase}
 use Rattle.mk_core.specs.declared.phase.Stopped.TheVariants as core
@@ -29,6 +29,11 @@ sum_within job book phase l from = omega (arith, l, settled_within job phase fro
 pub sum_with : (book after : Book) (phase : Phase) (stop : BookStop) → after ≡ stopped_at book phase stop → settled_of after.phases ≡ settled_of book.phases + length phase.journal
 sum_with book after phase stop e = ap (λ (b : Book). settled_of b.phases) e ∙ settled_push book.phases phase
 
+-- no halt stands where a job begins
+within_budget : (job : Job) (phase : Phase) → IsHaltedOrWithin (ledger_for job) (length phase.journal) → length phase.journal < job.budget
+within_budget job phase (inl halted) = absurd (halted refl)
+within_budget job phase (inr l) = l
+
 -- a stop that is kept, with its cause
 stops : (job : Job) (before : Book) (phase : Phase) (stop : BookStop) (result : RunStop) (after : Book) → IsPhaseFrom (ledger_for job) phase →
     (after ≡ stopped_at before phase stop → IsPhaseStop job (length before.phases) (settled_of after.phases) phase stop) →
@@ -39,7 +44,7 @@ stops job before phase stop Stopped after from cause e = record { phase = phase;
 pub stops_by_overflow : (job : Job) (before : Book) (phase : Phase) (number : ℕ) (stop : OverflowStop) (result : RunStop) (after : Book) → number ≡ length before.phases →
     Finishes (ledger_for job) (Err (core.Overflow phase stop)) → KeepsStop before phase (Overflow (Pair number) stop) result after → Completes job before (Err result) after
 stops_by_overflow job before phase number stop result after e (from, left, genuine, within) kept =
-    stops job before phase (Overflow (Pair number) stop) result after from (λ k. (e, left, genuine)) kept
+    stops job before phase (Overflow (Pair number) stop) result after from (λ k. (e, left, genuine, within_budget job phase within)) kept
 
 pub stops_by_budget : (job : Job) (before : Book) (phase : Phase) (settled more : ℕ) (result : RunStop) (after : Book) → settled ≡ settled_of before.phases → more ≡ length phase.journal →
     Finishes (ledger_for job) (Err (core.OverBudget phase)) → KeepsStop before phase (Budget (settled + more)) result after → Completes job before (Err result) after
@@ -49,4 +54,4 @@ stops_by_budget job before phase settled more result after e f (from, over) kept
 pub stops_by_full : (job : Job) (before : Book) (phase : Phase) (number i j : ℕ) (result : RunStop) (after : Book) → number ≡ length before.phases →
     Finishes (ledger_for job) (Err (core.BasisFull phase i j)) → KeepsStop before phase (BasisFull number i j) result after → Completes job before (Err result) after
 stops_by_full job before phase number i j result after e (from, full, within) kept =
-    stops job before phase (BasisFull number i j) result after from (λ k. (e, full)) kept
+    stops job before phase (BasisFull number i j) result after from (λ k. (e, full, within_budget job phase within)) kept

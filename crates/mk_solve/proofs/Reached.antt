@@ -1,5 +1,5 @@
 -- A run between two phases: what is reached by those that the book has, and what the next phase adds to it.
-use Rattle.std.proofs.Common.{◌≡◌, ◌⊎◌, inl, inr, ℕ, ◌-◌, ◌≤◌, List, [], ◌∷◌, ◌++◌, length, All, None, Err, ℤ, refl, arith, ap, sym, ◌∙◌, subst, take}
+use Rattle.std.proofs.Common.{◌≡◌, ◌⊎◌, inl, inr, ℕ, ◌-◌, ◌≤◌, ◌<◌, List, [], ◌∷◌, ◌++◌, length, All, None, Err, ℤ, refl, arith, ap, sym, ◌∙◌, subst, take}
 use Rattle.std.specs.List.{AllZip}
 use Rattle.std.specs.Option.{option_map, IfSome}
 use Rattle.std.proofs.lemmas.List.{length-map, map-append}
@@ -190,10 +190,14 @@ module _ (rows : List (List ℤ)) (w : List ℤ) (budget : ℕ) (rest : List (Li
     not_reduced = ap (option_map (λ (basis : BasisView). vectors_of basis.moves)) h.reduced;
   }
 
+  -- a phase that settled fewer pairs than its job may leaves pairs of the budget
+  less_settled : (phase : Phase) → length phase.journal < job.budget → settled_of (book.phases ++ phase ∷ []) < budget
+  less_settled phase l = let given = j.budget_given in omega (arith, settled_push book.phases phase, l, h.within, given)
+
   has_stopped : (phase : Phase) (stop : BookStop) → IsPhaseFrom (ledger_for job) phase → IsPhaseStop job (length book.phases) (settled_of (book.phases ++ phase ∷ [])) phase stop →
       HasStopped (lattice_with rows w) budget (book_as (stopped_at book phase stop)) (stop_as stop)
-  has_stopped phase (Overflow (Pair number) stop) from (e, free, genuine) =
-      (phase_as phase, stands phase (Overflow (Pair number) stop) number e from, free_in phase (stop_of stop).pair free, genuine)
+  has_stopped phase (Overflow (Pair number) stop) from (e, free, genuine, less) =
+      (phase_as phase, stands phase (Overflow (Pair number) stop) number e from, free_in phase (stop_of stop).pair free, genuine, less_settled phase less)
   has_stopped phase (Overflow (Tail index) stop) from cause = absurd cause
   has_stopped phase (Overflow Degree stop) from cause = absurd cause
   has_stopped phase (Budget settled) from (e, over) =
@@ -203,9 +207,9 @@ module _ (rows : List (List ℤ)) (w : List ℤ) (budget : ℕ) (rest : List (Li
         omega (arith, e, settled_push book.phases phase, used, given, h.within),
         (length book.phases, phase_as phase, stands phase (Budget settled) (length book.phases) refl from, (over.pair, free_in phase over.pair over.left)),
       )
-  has_stopped phase (BasisFull number i k) from (e, full) =
+  has_stopped phase (BasisFull number i k) from (e, full, less) =
       let at_limit = subst (λ limit. IsBasisFull limit phase (pair_of i k)) j.limit full in
-      (phase_as phase, stands phase (BasisFull number i k) number e from, full_in phase (pair_of i k) at_limit, free_in phase (pair_of i k) at_limit.left)
+      (phase_as phase, stands phase (BasisFull number i k) number e from, full_in phase (pair_of i k) at_limit, free_in phase (pair_of i k) at_limit.left, less_settled phase less)
 
   stopped_here : (phase : Phase) (stop : BookStop) → IsPhaseFrom (ledger_for job) phase → IsPhaseStop job (length book.phases) (settled_of (book.phases ++ phase ∷ [])) phase stop →
       Solves (lattice_with rows w) budget (Err Stopped) (stopped_at book phase stop)

@@ -1,5 +1,5 @@
 -- What the steps of a run give, and what they leave in the book.
-use Rattle.std.specs.Prelude.{◌≡◌, ℕ, List, [], ◌∷◌, ◌++◌, length, All, Bool, false, set, Some, Result, Ok, Err, ℤ}
+use Rattle.std.specs.Prelude.{◌≡◌, ℕ, ◌<◌, List, [], ◌∷◌, ◌++◌, length, All, Bool, false, set, Some, Result, Ok, Err, ℤ}
 use Rattle.mk_model.specs.Bases.{IsAnswer}
 use Rattle.mk_model.specs.CoreStates.{pair_of}
 use Rattle.mk_model.specs.Lattices.{SameLattice}
@@ -38,11 +38,11 @@ KeepsStop before phase stop Memory after = after ≡ before
 -- Why the phase of a number stops, where the phases up to it settled so many pairs.
 abbrev pub IsPhaseStop : Job → ℕ → ℕ → Phase → BookStop → Type 0
 IsPhaseStop job number settled phase (Overflow (Pair n) stop) =
-    (n ≡ number) × IsLeft phase (stop_of stop).pair × IsGenuineOverflow (vectors_of phase.basis.moves) (stop_of stop)
+    (n ≡ number) × IsLeft phase (stop_of stop).pair × IsGenuineOverflow (vectors_of phase.basis.moves) (stop_of stop) × (length phase.journal < job.budget)
 IsPhaseStop job number settled phase (Overflow (Tail index) stop) = ⊥
 IsPhaseStop job number settled phase (Overflow Degree stop) = ⊥
 IsPhaseStop job number settled phase (Budget n) = (n ≡ settled) × PhaseIsOverBudget (ledger_for job) phase
-IsPhaseStop job number settled phase (BasisFull n i j) = (n ≡ number) × IsBasisFull job.basis_limit phase (pair_of i j)
+IsPhaseStop job number settled phase (BasisFull n i j) = (n ≡ number) × IsBasisFull job.basis_limit phase (pair_of i j) × (length phase.journal < job.budget)
 
 -- the job's phase stopped: the book keeps it, and the stop with its cause
 pub record StopsIn (job : Job) (before after : Book) : Type 0 where

@@ -6,4 +6,4 @@ use Rattle.mk_model.proofs.examples.redundancy_examples.Goals as goal
 
 pub returns : goal.returns
 unfolding divides subtract combine positive_part
-returns c = record { larger_lead = refl; first_of_two = refl; second_of_two = refl; needed = refl; left = drops_two; apart = apart }
+returns c = record { divides_test = refl; divisor = refl; larger_lead = refl; first_of_two = refl; second_of_two = refl; needed = refl; left = drops_two; apart = apart }

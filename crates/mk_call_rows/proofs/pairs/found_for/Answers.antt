@@ -2,7 +2,7 @@ use Rattle.std.proofs.Common.{◌≡◌, length, subst, sym, All, List, ℤ, ℕ
 use Rattle.mk_move.specs.Moves.{ReadsRow}
 use Rattle.mk_reduce.proofs.BasisMoves.{row_belongs, columns_of}
 use Rattle.mk_reduce.proofs.NextSteps.{lead_columns}
-use Rattle.mk_call_rows.proofs.lower.found_for.Goals as goal
+use Rattle.mk_call_rows.proofs.pairs.found_for.Goals as goal
 
 pub find-requires : goal.find-requires
 find-requires g c =

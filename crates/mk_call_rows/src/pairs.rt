@@ -1,0 +1,137 @@
+ghost use Rattle.std.specs.Prelude.{◌≡◌, length, All};
+ghost use Rattle.mk_model.specs.Vectors.{IsEntry};
+ghost use Rattle.mk_reduce.specs.Leads.{leads_of};
+
+use crate::shown::{assert_moves, assert_row, start_of, table_of};
+use mk_core::{drop_redundant, finder_of};
+use mk_model::Entry;
+use mk_move::{Basis, Finder, Move, OverflowAt, Side};
+use mk_reduce::{PlainFinder, Stop, Work, critical, reduce};
+use std::alloc::AllocGlobal;
+use std::process::Abort;
+use std::test::Fail;
+
+const CUBIC: &str = "2 4\n1 -2 1 0\n0 -1 2 -1\n";
+
+const TURNED: &str = "2 4\n-1 2 -1 0\n0 -1 2 -1\n";
+
+const LARGE: &str =
+    "2 4\n1 4611686018427387905 0 -4611686018427387906\n1 -4611686018427387905 4611686018427387905 -1\n";
+
+const STEEP: &str =
+    "3 4\n1 0 0 -1\n0 4611686018427387904 4611686018427387903 -9223372036854775807\n4 -3 0 -1\n";
+
+const OVERLAPPING: &str = "3 4\n1 1 -1 -1\n1 -1 1 -1\n-1 1 1 -1\n";
+
+// The difference of the two leaves the range.
+const NO_DIFFERENCE: Stop = Stop::Overflow {
+    by: None,
+    at: OverflowAt {
+        column: 1,
+        left: -4611686018427387905,
+        times: 1,
+        right: 4611686018427387905,
+    },
+};
+
+// The step by the first move leaves the range.
+const NO_STEP: Stop = Stop::Overflow {
+    by: Some(0),
+    at: OverflowAt {
+        column: 3,
+        left: 9223372036854775806,
+        times: 4,
+        right: -1,
+    },
+};
+
+// What is left is the row in the text, or nothing where there is no text.
+fn assert_left(rt: &(impl Abort + AllocGlobal), work: &Work, text: &str) -> Result<(), Fail> {
+    match work.remainder() {
+        Some(rest) => assert_row(rt, rest, &table_of(rt, text)?, 0),
+        None => assert_eq!(rt; text, ""),
+    }
+    Ok(())
+}
+
+// Rows with the column that their list begins with, a pair, its difference, and what reduction leaves of it, or why one of the two
+// calls stops: then the steps done stay.
+#[test]
+fn pairs_are_reduced(rt: HostRuntime) -> Result<(), Fail> {
+    let steep = "1 4\n4 -4611686018427387907 -4611686018427387903 9223372036854775806\n";
+    let rows = [
+        (
+            CUBIC,
+            Some(1),
+            0,
+            "1 4\n-1 1 1 -1\n",
+            "1 4\n-1 1 1 -1\n",
+            None,
+        ),
+        (TURNED, None, 0, "1 4\n1 -3 3 -1\n", "", None),
+        (LARGE, None, 0, "", "", Some(NO_DIFFERENCE)),
+        (STEEP, None, 1, steep, steep, Some(NO_STEP)),
+    ];
+    for (text, first, i, difference, left, stop) in rows {
+        let basis = start_of(&rt, text, first)?;
+        assert_moves(&rt, &basis, text)?;
+        assert!(rt; i < 2);
+        assert!(rt; i + 1 < basis.len());
+        let finder = finder_of(rt.alloc(), &basis)?;
+        let mut work = match critical(rt.alloc(), &basis, i, i + 1) {
+            Ok(work) => work,
+            Err(refused) => {
+                assert_eq!(rt; Some(refused), stop);
+                continue;
+            }
+        };
+        assert_left(&rt, &work, difference)?;
+        assert_eq!(rt; work.front(), 0);
+        let refused = reduce(rt.alloc(), &mut work, &basis, &finder).err();
+        assert_eq!(rt; refused, stop);
+        assert_left(&rt, &work, left)?;
+        let front = if refused.is_some() { 0 } else { basis.len() };
+        assert_eq!(rt; work.front(), front);
+    }
+    Ok(())
+}
+
+// The place of a lead of the basis that divides the positive part of the move of a row, or none.
+fn found_for(
+    rt: &(impl Abort + AllocGlobal),
+    basis: &Basis,
+    finder: &PlainFinder,
+    row: &[Entry],
+) -> Result<Option<u32>, Fail>
+    requires columns { length row.now ≡ 4 }
+    requires entries { All IsEntry row.now }
+    requires leads { finder.now ≡ leads_of basis.now.moves }
+{
+    assert_eq!(rt; finder.count(), basis.len());
+    assert_eq!(rt; basis.grading().columns(), 4);
+    assert_eq!(rt; basis.priority().columns(), 4);
+    let found = Move::from_row(rt.alloc(), row, basis.grading(), basis.priority())?;
+    let Some(m) = found else {
+        panic!(rt; "the zero row");
+    };
+    Ok(finder.find(&m, Side::Plus))
+}
+
+#[test]
+fn a_lead_divides_or_none_does(rt: HostRuntime) -> Result<(), Fail> {
+    let basis = start_of(&rt, OVERLAPPING, None)?;
+    assert_moves(&rt, &basis, OVERLAPPING)?;
+    let finder = finder_of(rt.alloc(), &basis)?;
+    assert_eq!(rt; found_for(&rt, &basis, &finder, &[1, 1, -2, 0])?, Some(0));
+    assert_eq!(rt; found_for(&rt, &basis, &finder, &[0, 2, -2, 0])?, None);
+    Ok(())
+}
+
+#[test]
+fn redundant_moves_are_dropped(rt: HostRuntime) -> Result<(), Fail> {
+    let text = "3 2\n2 -2\n1 -1\n1 -1\n";
+    let basis = start_of(&rt, text, None)?;
+    assert_moves(&rt, &basis, text)?;
+    let kept = drop_redundant(rt.alloc(), &basis)?;
+    assert_moves(&rt, &kept, "1 2\n1 -1\n")
+}

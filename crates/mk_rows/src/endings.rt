@@ -24,13 +24,19 @@ fn each_status_has_its_number(rt: HostRuntime) -> Result<(), Fail> {
 fn says_why_a_run_stopped(rt: HostRuntime) -> Result<(), Fail> {
     let budget = BookStop::Budget { settled: 0 };
     let line = stop_line(rt.alloc(), &budget)?;
-    assert_eq!(rt; line.as_str(), "markov: budget of 0 pairs used and a pair is left\n");
+    assert_eq!(rt;
+        line.as_str(),
+        "markov: budget of 0 pairs used and a pair is left\n"
+    );
     let full = BookStop::BasisFull {
         phase: 0,
         i: 0,
         j: 1,
     };
     let line = stop_line(rt.alloc(), &full)?;
-    assert_eq!(rt; line.as_str(), "markov: basis holds 65536 moves and needs another\n");
+    assert_eq!(rt;
+        line.as_str(),
+        "markov: basis holds 65536 moves and needs another\n"
+    );
     Ok(())
 }

@@ -1,11 +1,10 @@
 -- What the files decide of a run, by how it ends.
-use Rattle.std.proofs.Common.{◌≡◌, ◌⊎◌, ℕ, ◌≤◌, List, length, Some, ap, refl, sym, subst, ◌∙◌, inl, inr, ℤ}
+use Rattle.std.proofs.Common.{ℕ, ◌≤◌, List, length, Some, ap, refl, subst, ◌∙◌, inl, inr}
 use Rattle.mk_model.specs.Lattices.{nonzero_rows}
 use Rattle.mk_model.specs.Tables.{Grid, rows_of, lattice_of_table}
 use Rattle.mk_desk.specs.Folders.{Desk, State, Rose}
-use Rattle.mk_input.specs.Projects.{project_files, IsFaulty, IsProblem}
+use Rattle.mk_input.specs.Projects.{project_files}
 use Rattle.mk_input.proofs.OneReading.{one_fault, not_both, one_problem}
-use Rattle.mk_project.specs.declared.fault.InputFault.{InputFault}
 use Rattle.mk_solve.specs.Books.{Book, book_as, stop_as}
 use Rattle.mk_run.specs.Runs.{default_budget, HasStopOf, HasCauseOf, BooksProblem, IsStopped, Ends, IsDecided}
 use Rattle.mk_run.specs.declared.status.Status.{Status}

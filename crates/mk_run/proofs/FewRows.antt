@@ -1,21 +1,21 @@
 -- A lattice of at most one row that isn't zero stops no run: its phases have at most one move, and so has its reduced basis.
-use Rattle.std.proofs.Common.{◌≡◌, ◌⊎◌, inl, inr, ℕ, zero, suc, ◌+◌, ◌-◌, ◌<◌, ◌≤◌, List, [], ◌∷◌, ◌++◌, length, ℤ, pos, negsuc, neg_ℤ, ◌≤ℤ◌, ◌*ℤ◌, ◌+ℤ◌, All, Contains, arith, ap, refl, sym, ◌∙◌, subst, not, Bool, true, false}
+use Rattle.std.proofs.Common.{◌≡◌, ◌⊎◌, inl, inr, ℕ, zero, suc, ◌-◌, ◌<◌, ◌≤◌, List, [], ◌∷◌, ◌++◌, length, ℤ, pos, negsuc, neg_ℤ, ◌≤ℤ◌, ◌*ℤ◌, ◌+ℤ◌, All, Contains, arith, ap, refl, sym, ◌∙◌, subst, not, Bool, true, false}
 use Rattle.std.specs.Int.{int_max}
 use Rattle.std.specs.List.{AllZip}
 use Rattle.std.proofs.lemmas.Bool.{cases_order}
 use Rattle.std.proofs.lemmas.Int.{ints}
 use Rattle.std.proofs.lemmas.List.Elements.{All-nil, All-cons, All-head, All-tail, All-filter, All-contains, All-contains_itself}
-use Rattle.mk_model.specs.Books.{PlainPhase, PlainBook, PlainStop, IsPhaseAlong, Saturate, SaturateLattice, StandsAt, StopsAtTail, StopsAtWeight, HasStopped, state_in, lists_for, all_columns}
+use Rattle.mk_model.specs.Books.{PlainPhase, PlainBook, PlainStop, IsPhaseAlong, Saturate, StandsAt, HasStopped, state_in, lists_for, all_columns}
 use Rattle.mk_model.specs.Books.PlainPlace.{AtPair, AtTail, AtWeight}
 use Rattle.mk_model.specs.Books.PlainStop.{Overflow, Budget, Full}
 use Rattle.mk_model.specs.CoreStates.{Pair, Settle, OverflowStop, IsPairOf, move_at, start_of}
-use Rattle.mk_model.specs.Lattices.{Lattice, lattice_of, combination, InLattice, HasGrading, is_zero, nonzero_rows}
+use Rattle.mk_model.specs.Lattices.{Lattice, lattice_of, InLattice, HasGrading, is_zero, nonzero_rows}
 use Rattle.mk_model.specs.Legal.{Replays}
 use Rattle.mk_model.specs.Orders.{IsOriented, IsRowTurned, lead, standard, list_of_column, ComesBefore}
 use Rattle.mk_model.specs.Overflows.{IsTailOverflow}
 use Rattle.mk_model.specs.Bases.{IsMove}
 use Rattle.mk_model.specs.ReducedBases.{IsLeast, IsReducedMove, IsReducedBasis}
-use Rattle.mk_model.specs.Reductions.{Divides, TailReduct, IsTailReduction}
+use Rattle.mk_model.specs.Reductions.{Divides, TailReduct}
 use Rattle.mk_model.specs.Reductions.Reaches.{here, go}
 use Rattle.mk_model.specs.Saturation.{drop_redundant, needed, is_redundant}
 use Rattle.mk_model.specs.Vectors.{entry, negate, negative_part, positive_part, scale, weight, zeros}
@@ -23,7 +23,6 @@ use Rattle.mk_model.proofs.Dropping.{drop_redundant_part}
 use Rattle.mk_model.proofs.EndedStates.{Contains-move_at}
 use Rattle.mk_model.proofs.Integers.{+ℤ-*ℤ, clamped, product_nonnegative, product_at_least}
 use Rattle.mk_model.proofs.LatticeLaws.{InLattice-row, InLattice-negate, combination_of_no_row, combination_of_one_row}
-use Rattle.mk_model.proofs.Lists.{Contains-none}
 use Rattle.mk_model.proofs.MoveLaws.{IsMove-lead, IsMove-lead_weight}
 use Rattle.mk_model.proofs.NormalForms.{All-from_contains}
 use Rattle.mk_model.proofs.OrderLaws.{IsOriented-not_zero, IsOriented-not_negated, IsOriented-scale_back, ComesBefore-irreflexive}

@@ -1,5 +1,5 @@
 -- How a run ends that is refused: what the book has then, and what was said and left.
-use Rattle.std.proofs.Common.{◌≡◌, ◌⊎◌, ◌+◌, ℕ, ◌≤◌, List, [], ◌∷◌, ◌++◌, take, Result, Option, Some, None, IfSome, Err, IsErrOf, false, refl, ap, sym, subst, ◌∙◌, inl, inr, arith}
+use Rattle.std.proofs.Common.{◌≡◌, ◌⊎◌, ◌+◌, ℕ, ◌≤◌, List, [], ◌∷◌, ◌++◌, take, Result, Some, None, IfSome, Err, IsErrOf, false, refl, ap, sym, subst, ◌∙◌, inl, inr, arith}
 use Rattle.std.proofs.Math.Nat.{eq-or-lt_of_le}
 use Rattle.mk_desk.specs.Folders.{Desk, State, Rose, HasCause, OnlyFaultsRose}
 use Rattle.mk_model.specs.Books.{PlainPhase, settled_in}
@@ -21,7 +21,7 @@ use Rattle.mk_run.specs.declared.fault.RunFault.{RunFault}
 use Rattle.mk_run.specs.declared.fault.RunFault.TheVariants as run
 use Rattle.mk_run.specs.declared.refusal.Refused.{Refused}
 use Rattle.mk_run.specs.declared.status.Status.{Status}
-use Rattle.mk_run.specs.declared.status.Status.TheVariants.{Usage, Input, Folder, Budget, Memory}
+use Rattle.mk_run.specs.declared.status.Status.TheVariants.{Usage, Budget, Memory}
 
 -- ---- the book
 -- a book that is empty has few pairs
@@ -41,15 +41,18 @@ its_stop book stop kept e h = subst (HasItsStop book) (let both = sym h.1 ∙ e 
 
 -- a book that is complete is under way
 pub begun_of_done : (book : Book) → IsDone book → IsUnderWay book
-begun_of_done book done = (done.0, record {
-  lat = done.1.lat;
-  grading = done.1.grading;
-  positive = done.1.positive;
-  fact = record {
-    bases = done.1.fact.bases;
-    under_way = record { rest = done.1.fact.complete.rest; left = []; phases = done.1.fact.complete.phases; reduced = inr done.1.fact.complete };
-  };
-})
+begun_of_done book done = (
+  done.0,
+  record {
+    lat = done.1.lat;
+    grading = done.1.grading;
+    positive = done.1.positive;
+    fact = record {
+      bases = done.1.fact.bases;
+      under_way = record { rest = done.1.fact.complete.rest; left = []; phases = done.1.fact.complete.phases; reduced = inr done.1.fact.complete };
+    };
+  },
+)
 
 -- what the book has, once a fault of the input is kept, and memory ran out
 pub left_book : (book : Book) (fault : RunFault) (after : State) → HasBook book after (Err fault) → HasLeftBook (book_with book fault)

@@ -1,4 +1,4 @@
-use Rattle.std.proofs.Common.{◌≡◌, Ok, Err, Result, sym, subst}
+use Rattle.std.proofs.Common.{Ok, Err, Result, sym, subst}
 use Rattle.mk_desk.specs.Folders.{WhereTold}
 use Rattle.mk_desk.proofs.Loading.{the_error}
 use Rattle.mk_desk.proofs.Telling.{where_told_then, where_told_weaker}

@@ -10,7 +10,7 @@ use Rattle.std.proofs.lemmas.Nat.Bits.{bit_at_or, bit_at-lt}
 use borrow.Author.Count.{below_more}
 use Rattle.mk_model.specs.Vectors.{entry, positive_part, IsEntry}
 use Rattle.mk_model.specs.Reductions.{lcm, Divides}
-use Rattle.mk_model.proofs.VectorAlgebra.{entry-positive_part, length-positive_part}
+use Rattle.mk_model.proofs.VectorAlgebra.{entry-positive_part}
 use Rattle.mk_model.proofs.Divisors.{length-lcm, entry-lcm}
 use Rattle.mk_move.specs.declared.side.Side.TheVariants.{Plus}
 use Rattle.mk_move.specs.Chains.{lcm_on}

@@ -27,7 +27,7 @@ use Rattle.mk_core.proofs.GoingOn.{settling_goes_on, halting_goes_on, none_claim
 -- ---- what is left, oriented
 -- an oriented rest belongs to the list
 pub belongs_oriented : (p : List ℕ) (w : List ℤ) (before after : Weighed) → length p ≡ length w → IsRest w before → IsRowOriented before.entries p after.entries → IsGraded w after → BelongsTo p w after
-belongs_oriented p w before after l rest h graded = record { columns = same h.either ∙ rest.columns ∙ sym l; graded = graded; oriented = h.oriented }
+belongs_oriented p w before after l rest h graded = record { columns = same h.turned.either ∙ rest.columns ∙ sym l; graded = graded; oriented = h.turned.oriented }
   where
     same : (after.entries ≡ before.entries) ⊎ (after.entries ≡ negate before.entries) → length after.entries ≡ length before.entries
     same (inl e) = ap length e
@@ -45,7 +45,7 @@ module _ (ledger : LedgerView) (kept : IsLedger ledger) where
     front_within = omega (arith, as_many);
     rest = before.entries;
     reduct = subst (λ moves. Reduct moves (difference moves pair) before.entries) (sym kept.moves) rest.reduct;
-    sign = h.either;
+    sign = h.turned.either;
     normal = subst (λ moves. IsNormal moves before.entries) (sym whole) rest.normal;
   }
     where

@@ -4,7 +4,7 @@ use Rattle.std.proofs.lemmas.List.{append-nil, length-take-le}
 use Rattle.std.specs.declared.alloc.Global.{Global}
 use Rattle.mk_desk.specs.Folders.{Desk, State, HasCause, Reads}
 use Rattle.mk_desk.specs.Transfers.{ReadsRest, passed_on}
-use Rattle.mk_desk.proofs.Telling.{rose_earlier}
+use Rattle.mk_desk.proofs.Telling.{cause_from}
 use Rattle.mk_desk.specs.declared.folder.DeskFault.{DeskFault}
 use Rattle.mk_desk.specs.declared.folder.DeskFault.TheVariants as desk
 use Rattle.mk_desk.specs.declared.transfer.LoadFault.{LoadFault}
@@ -80,17 +80,23 @@ failed_by_folder desk.Memory e = cc
 failed_by_folder desk.Failed e = refl
 
 pub cause_passed_on : (T U : Type 0) (a b c : State) (fault : DeskFault) (result : Result T LoadFault) → IsErrAnd result (λ e. e ≡ passed_on fault)
-    → a.faults ≤ b.faults → HasCause {T = U} desk.Failed b c (Err fault) → HasCause Failed a c result
-cause_passed_on T U a b c fault result is before cause = record {
-  later = let after = cause.later in omega arith;
+    → b.faults ≡ a.faults → HasCause {T = U} desk.Failed b c (Err fault) → HasCause Failed a c result
+cause_passed_on T U a b c fault result is before cause = cause_from a b c result before (record {
+  later = cause.later;
   failed = λ failed.
       let both : ◌≡◌ {A = Result T LoadFault} (Err (passed_on fault)) (Err Failed) = sym (the_error result (passed_on fault) is) ∙ failed in
-      rose_earlier a.faults b.faults c.faults before (cause.failed (ap Err (failed_by_folder fault (cc))));
-}
+      cause.failed (ap Err (failed_by_folder fault (cc)));
+  quiet = λ not_failed. cause.quiet (λ e.
+      let same : fault ≡ desk.Failed = cc in
+      not_failed (the_error result (passed_on fault) is ∙ ap (λ f. Err (passed_on f)) same));
+})
 
--- a load that did not fail asks for no cause
-pub no_cause : {T : Type 0} (a b c : State) (result : Result T LoadFault) → a.faults ≤ b.faults → b.faults ≤ c.faults → (IsErrOf result Failed → ⊥) → HasCause Failed a c result
-no_cause a b c result before after not_failed = record {
-  later = omega arith;
-  failed = λ failed. absurd (not_failed failed);
-}
+-- a read that did not fail counted no fault
+pub none_counted : {T : Type 0} (a b c : State) (n : ℕ) (result : Result T DeskFault) → b ≡ record a { given = n } → HasCause desk.Failed b c result
+    → (IsErrOf result desk.Failed → ⊥) → c.faults ≡ a.faults
+none_counted a b c n result same cause not_failed = cause.quiet not_failed ∙ ap (λ (s : State). s.faults) same
+
+-- only what was given changed, where no fault was counted
+pub given_more : (a b c : State) (n m : ℕ) → b ≡ record a { given = n } → c ≡ record b { given = m; faults = c.faults } → c.faults ≡ a.faults → c ≡ record a { given = m }
+given_more a b c n m first then same =
+    then ∙ ap (λ (s : State). record s { given = m; faults = c.faults }) first ∙ ap (λ k. record a { given = m; faults = k }) same

@@ -1,7 +1,7 @@
 -- Changes of a folder that tells what it holds, one after another, and the faults behind them.
-use Rattle.std.proofs.Common.{◌≡◌, ℕ, ◌+◌, ◌≤◌, List, ◌++◌, take, drop, Option, Some, None, Result, arith, inl, inr, ap, sym, ◌∙◌, append_assoc}
+use Rattle.std.proofs.Common.{◌≡◌, ℕ, ◌+◌, List, ◌++◌, take, drop, Option, Some, None, Result, IsErrOf, arith, ap, sym, subst, ◌∙◌, append_assoc}
 use Rattle.std.proofs.Math.Seq.{take-add}
-use Rattle.mk_desk.specs.Folders.{Desk, State, HasCause, WhereTold, Rose, said}
+use Rattle.mk_desk.specs.Folders.{Desk, State, HasCause, OnlyFaultsRose, WhereTold, Rose, said}
 use Rattle.mk_desk.specs.declared.folder.DeskFault.{DeskFault}
 use Rattle.mk_desk.specs.declared.folder.DeskFault.TheVariants.{Failed}
 use Rattle.mk_desk.specs.declared.folder.Channel.{Channel}
@@ -28,15 +28,24 @@ pub where_told_same : (a : Option Desk) (P : Desk → Desk → Type 0) → ((x :
 where_told_same None P p = tt
 where_told_same (Some x) P p = p x
 
--- faults that rose since later rose since earlier
-pub rose_earlier : (a b c : ℕ) → a ≤ b → Rose b c → Rose a c
-rose_earlier a b c h r = elim r [ inl up ↦ inl (omega arith) | inr full ↦ inr full ]
+-- a call that could change the faults alone, and did not fail, changed nothing
+pub nothing_rose : {T : Type 0} (a b : State) (result : Result T DeskFault) → OnlyFaultsRose a b → HasCause Failed a b result → (IsErrOf result Failed → ⊥) → b ≡ a
+nothing_rose a b result only cause not_failed = only ∙ ap (λ n. record a { faults = n }) (cause.quiet not_failed)
 
--- a call's cause, said from an earlier state
-pub has_cause_earlier : {T : Type 0} (a b c : State) (result : Result T DeskFault) → a.faults ≤ b.faults → HasCause Failed b c result → HasCause Failed a c result
-has_cause_earlier a b c result h cause = record {
+-- a call's cause, said from a state of as many faults
+pub cause_from : {T E : Type 0} {failure : E} (a b c : State) (result : Result T E) → b.faults ≡ a.faults → HasCause failure b c result → HasCause failure a c result
+cause_from a b c result same cause = record {
   later = let up = cause.later in omega arith;
-  failed = λ failed. rose_earlier a.faults b.faults c.faults h (cause.failed failed);
+  failed = λ failed. subst (λ n. Rose n c.faults) same (cause.failed failed);
+  quiet = λ not_failed. cause.quiet not_failed ∙ same;
+}
+
+-- an answer that is not that failure, where no fault was counted
+pub no_failure : {T E : Type 0} {failure : E} (a b : State) (result : Result T E) → b.faults ≡ a.faults → (IsErrOf result failure → ⊥) → HasCause failure a b result
+no_failure a b result same not_failed = record {
+  later = omega arith;
+  failed = λ failed. absurd (not_failed failed);
+  quiet = λ _. same;
 }
 
 -- made, then the front of what is left, is a longer front

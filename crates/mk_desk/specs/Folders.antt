@@ -39,10 +39,19 @@ last_count = 2 ^ 64 - 1
 abbrev pub Rose : ℕ → ℕ → Type 0
 Rose before after = (before < after) ⊎ (after ≡ last_count)
 
--- The count of faults doesn't fall, and this failure is answered only where it rose.
+-- The count of faults doesn't fall. It rose where this failure is answered, and stands where it stood at every other answer.
 pub record HasCause {T E : Type 0} (failure : E) (before after : State) (result : Result T E) : Type 0 where
   pub later : before.faults ≤ after.faults
   pub failed : IsErrOf result failure → Rose before.faults after.faults
+  pub quiet : (IsErrOf result failure → ⊥) → after.faults ≡ before.faults
+
+-- All but the count of faults is as before.
+abbrev pub OnlyFaultsRose : State → State → Type 0
+OnlyFaultsRose before after = after ≡ record before { faults = after.faults }
+
+-- All but the count of faults and what reading showed is as before.
+abbrev pub OnlyReadingMoved : State → State → Type 0
+OnlyReadingMoved before after = after ≡ record before { found = after.found; given = after.given; faults = after.faults }
 
 -- A folder tells after a call exactly where it told before it, and then the change is such.
 abbrev pub WhereTold : Option Desk → Option Desk → (Desk → Desk → Type 0) → Type 0

@@ -2,18 +2,18 @@
 use Rattle.std.specs.Prelude.{◌≡◌, ◌↔◌, ℕ, ◌+◌, min, List, Result, IsErrOf}
 use Rattle.std.specs.List.{Contains}
 use Rattle.mk_desk.specs.Folders.{Desk, State, last_count}
-use Rattle.mk_desk.specs.SureFolders as sure
+use Rattle.mk_desk.specs.SureFolders.{sure_desk, sure_state}
 use Rattle.mk_desk.specs.declared.folder.DeskFault.{DeskFault}
 use Rattle.mk_desk.specs.declared.folder.DeskFault.TheVariants.{Failed}
 use Rattle.mk_desk.specs.declared.memory_folder.MemoryFolder.{MemoryFolder}
 
 -- what it holds
-abbrev pub desk_of : MemoryFolder → Desk
-desk_of folder = sure.desk_of folder.kept
+abbrev pub memory_desk : MemoryFolder → Desk
+memory_desk folder = sure_desk folder.kept
 
 -- It counts the calls that failed.
-abbrev pub state_of : MemoryFolder → State
-state_of folder = record (sure.state_of folder.kept) { faults = folder.calls.faults.count }
+abbrev pub memory_state : MemoryFolder → State
+memory_state folder = record (sure_state folder.kept) { faults = folder.calls.faults.count }
 
 -- how many calls there were
 abbrev pub call_count : MemoryFolder → ℕ
@@ -27,10 +27,9 @@ failing_calls folder = folder.calls.failing.items
 abbrev pub chunk_of : MemoryFolder → ℕ
 chunk_of folder = folder.chunk
 
--- One call more. It failed exactly where the list of failing calls names it, and else no fault is counted.
+-- One call more. It failed exactly where the list of failing calls names it.
 pub record IsNextCall {T : Type 0} (before after : MemoryFolder) (result : Result T DeskFault) : Type 0 where
   pub count : call_count after ≡ min (call_count before + 1) last_count
   pub failed : IsErrOf result Failed ↔ Contains (failing_calls before) (call_count after)
-  pub quiet : (IsErrOf result Failed → ⊥) → (state_of after).faults ≡ (state_of before).faults
   pub failing : failing_calls after ≡ failing_calls before
   pub chunk : chunk_of after ≡ chunk_of before

@@ -11,8 +11,8 @@ unfoldable pub files_of : BTreeMap (String Global) (Vec ℕ Global) → Files
 files_of files = from_entries (map (λ e. (string_bytes e.0, e.1.items)) files.entries)
 
 -- what it holds
-abbrev pub desk_of : SureFolder → Desk
-desk_of folder = record {
+abbrev pub sure_desk : SureFolder → Desk
+sure_desk folder = record {
   files = files_of folder.files;
   rest = drop folder.position folder.reading.items;
   made_name = string_bytes folder.made_name;
@@ -22,5 +22,5 @@ desk_of folder = record {
 }
 
 -- It counts no fault.
-abbrev pub state_of : SureFolder → State
-state_of folder = record { making = folder.making; found = folder.found; given = folder.given; faults = 0 }
+abbrev pub sure_state : SureFolder → State
+sure_state folder = record { making = folder.making; found = folder.found; given = folder.given; faults = 0 }

@@ -35,7 +35,7 @@ pub enum Channel {
 /// of the channels holds where it tells. Whether it tells never changes. After either fault what is said of a refusal holds.
 pub trait Folder {
     ghost use Rattle.std.specs.Prelude.{Option, List};
-    ghost use Rattle.mk_desk.specs.Folders.{Desk, State, HasCause, WhereTold, StartsReading, Reads, StartsWriting, Writes, EndsWriting, Says, given_after};
+    ghost use Rattle.mk_desk.specs.Folders.{Desk, State, HasCause, OnlyFaultsRose, WhereTold, StartsReading, Reads, StartsWriting, Writes, EndsWriting, Says, given_after};
 
     /// What it holds, where it tells.
     ghost told: { Self → Option Desk };
@@ -45,9 +45,7 @@ pub trait Folder {
 
     /// Begins to read a file, and ends a reading that went on.
     fn start_read(&mut self, name: &str) -> Result<Found, DeskFault>
-        ensures found { (state self.new).found ≡ result_ok result }
-        ensures given { (state self.new).given ≡ 0 }
-        ensures making { (state self.new).making ≡ (state self.old).making }
+        ensures state { state self.new ≡ record (state self.old) { found = result_ok result; given = 0; faults = (state self.new).faults } }
         ensures cause { HasCause DeskFault.Failed (state self.old) (state self.new) result }
         ensures told { WhereTold (told self.old) (told self.new) (StartsReading name.now result) };
 
@@ -56,18 +54,15 @@ pub trait Folder {
         requires here { (state self.old).found ≡ Some Here }
         requires room { 0 < length into.old }
         ensures within { IfOk result (λ n. n ≤ length into.old) }
-        ensures given { (state self.new).given ≡ given_after (state self.old).given result }
-        ensures found { (state self.new).found ≡ (state self.old).found }
-        ensures making { (state self.new).making ≡ (state self.old).making }
+        ensures state { state self.new
+            ≡ record (state self.old) { given = given_after (state self.old).given result; faults = (state self.new).faults } }
         ensures cause { HasCause DeskFault.Failed (state self.old) (state self.new) result }
         ensures told { WhereTold (told self.old) (told self.new) (Reads into.new result) };
 
     /// Begins to make a file. It is empty, and not yet among the files.
     fn start_write(&mut self, name: &str) -> Result<(), DeskFault>
         requires { (state self.old).making ≡ false }
-        ensures making { (state self.new).making ≡ is_ok result }
-        ensures found { (state self.new).found ≡ (state self.old).found }
-        ensures given { (state self.new).given ≡ (state self.old).given }
+        ensures state { state self.new ≡ record (state self.old) { making = is_ok result; faults = (state self.new).faults } }
         ensures cause { HasCause DeskFault.Failed (state self.old) (state self.new) result }
         ensures told { WhereTold (told self.old) (told self.new) (StartsWriting name.now result) };
 
@@ -76,18 +71,14 @@ pub trait Folder {
         requires making { (state self.old).making ≡ true }
         requires some { 0 < length piece.now }
         ensures within { IfOk result (λ n. (0 < n) × (n ≤ length piece.now)) }
-        ensures making { (state self.new).making ≡ true }
-        ensures found { (state self.new).found ≡ (state self.old).found }
-        ensures given { (state self.new).given ≡ (state self.old).given }
+        ensures state { OnlyFaultsRose (state self.old) (state self.new) }
         ensures cause { HasCause DeskFault.Failed (state self.old) (state self.new) result }
         ensures told { WhereTold (told self.old) (told self.new) (Writes piece.now result) };
 
     /// Puts the file that was made among the files, in the place of an older one of its name. It is no longer being made.
     fn end_write(&mut self) -> Result<(), DeskFault>
         requires { (state self.old).making ≡ true }
-        ensures making { (state self.new).making ≡ false }
-        ensures found { (state self.new).found ≡ (state self.old).found }
-        ensures given { (state self.new).given ≡ (state self.old).given }
+        ensures state { state self.new ≡ record (state self.old) { making = false; faults = (state self.new).faults } }
         ensures cause { HasCause DeskFault.Failed (state self.old) (state self.new) result }
         ensures told { WhereTold (told self.old) (told self.new) (EndsWriting result) };
 
@@ -95,9 +86,7 @@ pub trait Folder {
     fn say(&mut self, channel: Channel, piece: &[u8]) -> Result<usize, DeskFault>
         requires { 0 < length piece.now }
         ensures within { IfOk result (λ n. (0 < n) × (n ≤ length piece.now)) }
-        ensures making { (state self.new).making ≡ (state self.old).making }
-        ensures found { (state self.new).found ≡ (state self.old).found }
-        ensures given { (state self.new).given ≡ (state self.old).given }
+        ensures state { OnlyFaultsRose (state self.old) (state self.new) }
         ensures cause { HasCause DeskFault.Failed (state self.old) (state self.new) result }
         ensures told { WhereTold (told self.old) (told self.new) (Says channel piece.now result) };
 }

@@ -4,6 +4,7 @@
 mod faults;
 mod folder;
 mod memory_folder;
+mod part_file;
 mod real_folder;
 mod sure_folder;
 mod transfer;

@@ -54,7 +54,7 @@ impl MemoryFolder {
     ghost use Rattle.std.specs.Prelude.{[], ◌≡◌, ◌≤◌, None, false, OnOk, OnErr, option_copied};
     ghost use Rattle.std.specs.FinMap.{get, len};
     ghost use Rattle.mk_desk.specs.Folders.{said_on};
-    ghost use Rattle.mk_desk.specs.MemoryFolders.{desk_of, state_of, call_count, failing_calls, chunk_of};
+    ghost use Rattle.mk_desk.specs.MemoryFolders.{memory_desk, memory_state, call_count, failing_calls, chunk_of};
     ghost use Rattle.mk_desk.specs.SureFolders.{files_of};
 
     /// No file is being made, and nothing was said.
@@ -65,8 +65,8 @@ impl MemoryFolder {
         chunk: usize,
     ) -> MemoryFolder
         requires { 1 ≤ chunk }
-        ensures desk { desk_of result ≡ record { files = files_of files; rest = []; made_name = []; made = []; out = []; errors = [] } }
-        ensures state { state_of result ≡ record { making = false; found = None; given = 0; faults = 0 } }
+        ensures desk { memory_desk result ≡ record { files = files_of files; rest = []; made_name = []; made = []; out = []; errors = [] } }
+        ensures state { memory_state result ≡ record { making = false; found = None; given = 0; faults = 0 } }
         ensures calls { (call_count result ≡ 0) × (failing_calls result ≡ failing.items) × (chunk_of result ≡ chunk) }
     {
         MemoryFolder {
@@ -82,28 +82,28 @@ impl MemoryFolder {
 
     /// The bytes of a file.
     pub fn file(&self, name: &str) -> Option<&[u8]>
-        ensures { option_copied result ≡ get (desk_of self.now).files name.now }
+        ensures { option_copied result ≡ get (memory_desk self.now).files name.now }
     {
         self.kept.file(name)
     }
 
     /// How many files there are.
     pub fn len(&self) -> usize
-        ensures { result ≡ len (desk_of self.now).files }
+        ensures { result ≡ len (memory_desk self.now).files }
     {
         self.kept.len()
     }
 
     /// The bytes of the file being made, or last made.
     pub fn made(&self) -> &[u8]
-        ensures { result.now ≡ (desk_of self.now).made }
+        ensures { result.now ≡ (memory_desk self.now).made }
     {
         self.kept.made()
     }
 
     /// What was said on a channel.
     pub fn said(&self, channel: Channel) -> &[u8]
-        ensures { result.now ≡ said_on channel (desk_of self.now) }
+        ensures { result.now ≡ said_on channel (memory_desk self.now) }
     {
         self.kept.said(channel)
     }
@@ -117,7 +117,7 @@ impl MemoryFolder {
 
     /// How many of them failed.
     pub fn faults(&self) -> u64
-        ensures { result ≡ (state_of self.now).faults }
+        ensures { result ≡ (memory_state self.now).faults }
     {
         self.calls.faults.count
     }
@@ -128,18 +128,18 @@ impl Folder for MemoryFolder {
     ghost use Rattle.std.specs.Prelude.{Some, true, false, length, is_ok};
     ghost use Rattle.std.specs.Result.{result_ok};
     ghost use Rattle.mk_desk.specs.declared.folder.Found.TheVariants.{Here};
-    ghost use Rattle.mk_desk.specs.Folders.{HasCause, StartsReading, Reads, StartsWriting, Writes, EndsWriting, Says, given_after};
-    ghost use Rattle.mk_desk.specs.MemoryFolders.{desk_of, state_of, chunk_of, IsNextCall};
+    ghost use Rattle.mk_desk.specs.Folders.{HasCause, OnlyFaultsRose, StartsReading, Reads, StartsWriting, Writes, EndsWriting, Says, given_after};
+    ghost use Rattle.mk_desk.specs.MemoryFolders.{memory_desk, memory_state, chunk_of, IsNextCall};
 
-    ghost told = { λ folder. Some (desk_of folder) };
+    ghost told = { λ folder. Some (memory_desk folder) };
 
-    ghost state = { state_of };
+    ghost state = { memory_state };
 
     fn start_read(&mut self, name: &str) -> Result<Found, DeskFault>
-        ensures state { state_of self.new
-            ≡ record (state_of self.old) { found = result_ok result; given = 0; faults = (state_of self.new).faults } }
-        ensures desk { StartsReading name.now result (desk_of self.old) (desk_of self.new) }
-        ensures cause { HasCause DeskFault.Failed (state_of self.old) (state_of self.new) result }
+        ensures state { memory_state self.new
+            ≡ record (memory_state self.old) { found = result_ok result; given = 0; faults = (memory_state self.new).faults } }
+        ensures desk { StartsReading name.now result (memory_desk self.old) (memory_desk self.new) }
+        ensures cause { HasCause DeskFault.Failed (memory_state self.old) (memory_state self.new) result }
         ensures call { IsNextCall self.old self.new result }
     {
         self.kept.end_reading();
@@ -148,13 +148,13 @@ impl Folder for MemoryFolder {
     }
 
     fn read(&mut self, into: &mut [u8]) -> Result<usize, DeskFault>
-        requires here { (state_of self.old).found ≡ Some Here }
+        requires here { (memory_state self.old).found ≡ Some Here }
         requires room { 0 < length into.old }
         ensures within { IfOk result (λ n. n ≤ min (length into.old) (chunk_of self.old)) }
-        ensures state { state_of self.new
-            ≡ record (state_of self.old) { given = given_after (state_of self.old).given result; faults = (state_of self.new).faults } }
-        ensures desk { Reads into.new result (desk_of self.old) (desk_of self.new) }
-        ensures cause { HasCause DeskFault.Failed (state_of self.old) (state_of self.new) result }
+        ensures state { memory_state self.new
+            ≡ record (memory_state self.old) { given = given_after (memory_state self.old).given result; faults = (memory_state self.new).faults } }
+        ensures desk { Reads into.new result (memory_desk self.old) (memory_desk self.new) }
+        ensures cause { HasCause DeskFault.Failed (memory_state self.old) (memory_state self.new) result }
         ensures call { IsNextCall self.old self.new result }
     {
         self.calls.begin()?;
@@ -163,11 +163,11 @@ impl Folder for MemoryFolder {
     }
 
     fn start_write(&mut self, name: &str) -> Result<(), DeskFault>
-        requires { (state_of self.old).making ≡ false }
-        ensures state { state_of self.new
-            ≡ record (state_of self.old) { making = is_ok result; faults = (state_of self.new).faults } }
-        ensures desk { StartsWriting name.now result (desk_of self.old) (desk_of self.new) }
-        ensures cause { HasCause DeskFault.Failed (state_of self.old) (state_of self.new) result }
+        requires { (memory_state self.old).making ≡ false }
+        ensures state { memory_state self.new
+            ≡ record (memory_state self.old) { making = is_ok result; faults = (memory_state self.new).faults } }
+        ensures desk { StartsWriting name.now result (memory_desk self.old) (memory_desk self.new) }
+        ensures cause { HasCause DeskFault.Failed (memory_state self.old) (memory_state self.new) result }
         ensures call { IsNextCall self.old self.new result }
     {
         self.calls.begin()?;
@@ -175,12 +175,12 @@ impl Folder for MemoryFolder {
     }
 
     fn write(&mut self, piece: &[u8]) -> Result<usize, DeskFault>
-        requires making { (state_of self.old).making ≡ true }
+        requires making { (memory_state self.old).making ≡ true }
         requires some { 0 < length piece.now }
         ensures within { IfOk result (λ n. (0 < n) × (n ≤ min (length piece.now) (chunk_of self.old))) }
-        ensures state { state_of self.new ≡ record (state_of self.old) { faults = (state_of self.new).faults } }
-        ensures desk { Writes piece.now result (desk_of self.old) (desk_of self.new) }
-        ensures cause { HasCause DeskFault.Failed (state_of self.old) (state_of self.new) result }
+        ensures state { OnlyFaultsRose (memory_state self.old) (memory_state self.new) }
+        ensures desk { Writes piece.now result (memory_desk self.old) (memory_desk self.new) }
+        ensures cause { HasCause DeskFault.Failed (memory_state self.old) (memory_state self.new) result }
         ensures call { IsNextCall self.old self.new result }
     {
         self.calls.begin()?;
@@ -189,11 +189,11 @@ impl Folder for MemoryFolder {
     }
 
     fn end_write(&mut self) -> Result<(), DeskFault>
-        requires { (state_of self.old).making ≡ true }
-        ensures state { state_of self.new
-            ≡ record (state_of self.old) { making = false; faults = (state_of self.new).faults } }
-        ensures desk { EndsWriting result (desk_of self.old) (desk_of self.new) }
-        ensures cause { HasCause DeskFault.Failed (state_of self.old) (state_of self.new) result }
+        requires { (memory_state self.old).making ≡ true }
+        ensures state { memory_state self.new
+            ≡ record (memory_state self.old) { making = false; faults = (memory_state self.new).faults } }
+        ensures desk { EndsWriting result (memory_desk self.old) (memory_desk self.new) }
+        ensures cause { HasCause DeskFault.Failed (memory_state self.old) (memory_state self.new) result }
         ensures call { IsNextCall self.old self.new result }
     {
         if let Err(fault) = self.calls.begin() {
@@ -206,9 +206,9 @@ impl Folder for MemoryFolder {
     fn say(&mut self, channel: Channel, piece: &[u8]) -> Result<usize, DeskFault>
         requires { 0 < length piece.now }
         ensures within { IfOk result (λ n. (0 < n) × (n ≤ min (length piece.now) (chunk_of self.old))) }
-        ensures state { state_of self.new ≡ record (state_of self.old) { faults = (state_of self.new).faults } }
-        ensures desk { Says channel piece.now result (desk_of self.old) (desk_of self.new) }
-        ensures cause { HasCause DeskFault.Failed (state_of self.old) (state_of self.new) result }
+        ensures state { OnlyFaultsRose (memory_state self.old) (memory_state self.new) }
+        ensures desk { Says channel piece.now result (memory_desk self.old) (memory_desk self.new) }
+        ensures cause { HasCause DeskFault.Failed (memory_state self.old) (memory_state self.new) result }
         ensures call { IsNextCall self.old self.new result }
     {
         self.calls.begin()?;

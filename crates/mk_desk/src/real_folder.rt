@@ -4,15 +4,17 @@ ghost use Rattle.std.specs.Prelude.{◌≡◌, None, false, IfSome, length};
 
 use crate::faults::Faults;
 use crate::folder::{Channel, DeskFault, Folder, Found};
+use crate::part_file::{PartFile, is_absent};
 use std::alloc::Global;
-use std::fs::{self, File};
-use std::io::{Eprint, ErrorKind, Print, Read, Write};
+use std::fs;
+use std::io::{Eprint, Print, Read};
 use std::rt::Files;
 
 /// Real files, by their paths, and the two standard streams. It doesn't tell what they hold.
 ///
-/// A file that is being made stands beside its place, under its name with `.part` behind it, and takes its name at the
-/// end. Where a file has that name already it is left as it is, and none is made.
+/// A file that is being made stands beside its place from its first write on, under its name with `.part` behind it or with
+/// `.part2`, `.part3` and so on up to `.part100`, where a file has such a name already; that one is left as it is. At the end
+/// its bytes are synced, and it takes its name.
 #[derive(Drop)]
 pub struct RealFolder<'a, R: Files> {
     alloc: Global,
@@ -20,16 +22,8 @@ pub struct RealFolder<'a, R: Files> {
     reading: Option<R::File>,
     found: Option<Found>,
     given: u64,
-    making: Option<Making<R::File>>,
+    making: Option<PartFile<R>>,
     faults: Faults,
-}
-
-// A file that is being made.
-#[derive(Drop)]
-struct Making<F> {
-    file: F,
-    name: String,
-    part: String,
 }
 
 impl<'a, R: Files + Print + Eprint> RealFolder<'a, R> {
@@ -72,7 +66,7 @@ impl<R: Files + Print + Eprint> Folder for RealFolder<'_, R> {
                 self.found = Some(Found::Here);
                 Ok(Found::Here)
             }
-            Err(error) if error.kind() == ErrorKind::NotFound => {
+            Err(error) if is_absent(error.kind()) => {
                 self.found = Some(Found::Absent);
                 Ok(Found::Absent)
             }
@@ -94,41 +88,29 @@ impl<R: Files + Print + Eprint> Folder for RealFolder<'_, R> {
     }
 
     fn start_write(&mut self, name: &str) -> Result<(), DeskFault> {
-        let part = format!(in self.alloc; "{name}.part")?;
         let name = String::from_str(self.alloc, name)?;
-        match File::create_new(self.rt, &part) {
-            Ok(file) => {
-                self.making = Some(Making { file, name, part });
-                Ok(())
-            }
-            Err(_) => Err(self.faults.rise()),
-        }
+        self.making = Some(PartFile::new(name));
+        Ok(())
     }
 
     fn write(&mut self, piece: &[u8]) -> Result<usize, DeskFault> {
-        let Some(making) = self.making.as_mut() else {
+        let Some(file) = self.making.as_mut() else {
             return Err(self.faults.rise());
         };
-        match making.file.write(piece) {
-            Ok(count) if count > 0 => Ok(count),
-            _ => {
-                let _ = fs::remove_file(self.rt, &making.part);
-                Err(self.faults.rise())
-            }
+        match file.write(self.alloc, self.rt, piece)? {
+            Some(count) => Ok(count),
+            None => Err(self.faults.rise()),
         }
     }
 
     fn end_write(&mut self) -> Result<(), DeskFault> {
-        let Some(Making { file, name, part }) = self.making.take() else {
+        let Some(file) = self.making.take() else {
             return Err(self.faults.rise());
         };
-        drop(file);
-        match fs::rename(self.rt, &part, &name) {
-            Ok(()) => Ok(()),
-            Err(_) => {
-                let _ = fs::remove_file(self.rt, &part);
-                Err(self.faults.rise())
-            }
+        if file.finish(self.alloc, self.rt)? {
+            Ok(())
+        } else {
+            Err(self.faults.rise())
         }
     }
 
@@ -159,25 +141,92 @@ mod tests {
     use crate::transfer::{LoadFault, load, put_all};
     use std::test::Fail;
 
-    const NAME: &str = "real_folder_test.txt";
+    // The whole text of a file.
+    fn text_of(rt: &HostRuntime, name: &str) -> Result<String, Fail> {
+        Ok(fs::read_to_string(rt, name)?)
+    }
 
     #[test]
     fn a_real_file_is_made_and_read(rt: HostRuntime) -> Result<(), Fail> {
-        fs::write(&rt, NAME, "old")?;
+        let name = "real_folder_made.txt";
+        fs::write(&rt, name, "old")?;
         let mut folder = RealFolder::new(rt.alloc(), &rt);
-        folder.start_write(NAME)?;
+        folder.start_write(name)?;
         put_all(&mut folder, b"new")?;
-        let before = load(rt.alloc(), &mut folder, NAME, 10)?.ok_or("none")?;
+        let before = load(rt.alloc(), &mut folder, name, 10)?.ok_or("none")?;
         assert_eq!(rt; before.as_slice(), b"old".as_slice());
         folder.end_write()?;
-        let after = load(rt.alloc(), &mut folder, NAME, 10)?.ok_or("none")?;
+        let after = load(rt.alloc(), &mut folder, name, 10)?.ok_or("none")?;
         assert_eq!(rt; after.as_slice(), b"new".as_slice());
-        fs::remove_file(&rt, NAME)?;
-        assert_eq!(rt; load(rt.alloc(), &mut folder, NAME, 10), Ok(None));
+        fs::remove_file(&rt, name)?;
+        assert_eq!(rt; load(rt.alloc(), &mut folder, name, 10), Ok(None));
         assert_eq!(rt;
             load(rt.alloc(), &mut folder, ".", 10),
             Err(LoadFault::Failed)
         );
+        Ok(())
+    }
+
+    #[test]
+    fn an_old_part_file_is_left(rt: HostRuntime) -> Result<(), Fail> {
+        let name = "real_folder_part.txt";
+        let part = "real_folder_part.txt.part";
+        let second = "real_folder_part.txt.part2";
+        fs::write(&rt, part, "older")?;
+        let mut folder = RealFolder::new(rt.alloc(), &rt);
+        folder.start_write(name)?;
+        assert!(rt; !fs::exists(&rt, second)?);
+        put_all(&mut folder, b"new")?;
+        assert_eq!(rt; text_of(&rt, second)?.as_str(), "new");
+        folder.end_write()?;
+        assert_eq!(rt; text_of(&rt, name)?.as_str(), "new");
+        assert_eq!(rt; text_of(&rt, part)?.as_str(), "older");
+        assert!(rt; !fs::exists(&rt, second)?);
+        fs::remove_file(&rt, name)?;
+        fs::remove_file(&rt, part)?;
+        Ok(())
+    }
+
+    #[test]
+    fn an_empty_file_is_made_at_its_end(rt: HostRuntime) -> Result<(), Fail> {
+        let name = "real_folder_empty.txt";
+        let mut folder = RealFolder::new(rt.alloc(), &rt);
+        folder.start_write(name)?;
+        assert!(rt; !fs::exists(&rt, "real_folder_empty.txt.part")?);
+        folder.end_write()?;
+        assert_eq!(rt; text_of(&rt, name)?.as_str(), "");
+        fs::remove_file(&rt, name)?;
+        Ok(())
+    }
+
+    #[test]
+    fn a_path_through_a_file_fails(rt: HostRuntime) -> Result<(), Fail> {
+        fs::write(&rt, "real_folder_file.txt", "old")?;
+        let below = "real_folder_file.txt/below";
+        let mut folder = RealFolder::new(rt.alloc(), &rt);
+        assert_eq!(rt; folder.start_read(below), Err(DeskFault::Failed));
+        assert_eq!(rt;
+            folder.start_read("real_folder_none/below"),
+            Ok(Found::Absent)
+        );
+        folder.start_write(below)?;
+        assert_eq!(rt; folder.write(b"new"), Err(DeskFault::Failed));
+        assert_eq!(rt; folder.write(b"new"), Err(DeskFault::Failed));
+        assert_eq!(rt; folder.end_write(), Err(DeskFault::Failed));
+        fs::remove_file(&rt, "real_folder_file.txt")?;
+        Ok(())
+    }
+
+    #[test]
+    fn a_place_that_is_a_folder_fails(rt: HostRuntime) -> Result<(), Fail> {
+        fs::create_dir(&rt, "real_folder_dir")?;
+        fs::write(&rt, "real_folder_dir/file", "kept")?;
+        let mut folder = RealFolder::new(rt.alloc(), &rt);
+        folder.start_write("real_folder_dir")?;
+        put_all(&mut folder, b"new")?;
+        assert_eq!(rt; folder.end_write(), Err(DeskFault::Failed));
+        assert!(rt; !fs::exists(&rt, "real_folder_dir.part")?);
+        fs::remove_dir_all(&rt, "real_folder_dir")?;
         Ok(())
     }
 }

@@ -28,12 +28,12 @@ impl SureFolder {
     ghost use Rattle.std.specs.Prelude.{[], Some, None, false, OnOk, OnErr, option_copied};
     ghost use Rattle.std.specs.FinMap.{get, insert, len};
     ghost use Rattle.mk_desk.specs.Folders.{said_on};
-    ghost use Rattle.mk_desk.specs.SureFolders.{files_of, desk_of, state_of};
+    ghost use Rattle.mk_desk.specs.SureFolders.{files_of, sure_desk, sure_state};
 
     /// No file is being made, and nothing was said.
     pub fn new(alloc: Global, files: BTreeMap<String, Vec<u8>>) -> SureFolder
-        ensures desk { desk_of result ≡ record { files = files_of files; rest = []; made_name = []; made = []; out = []; errors = [] } }
-        ensures state { state_of result ≡ record { making = false; found = None; given = 0; faults = 0 } }
+        ensures desk { sure_desk result ≡ record { files = files_of files; rest = []; made_name = []; made = []; out = []; errors = [] } }
+        ensures state { sure_state result ≡ record { making = false; found = None; given = 0; faults = 0 } }
     {
         SureFolder {
             alloc,
@@ -68,8 +68,8 @@ impl SureFolder {
 
     // Ends a reading, as one that failed to start.
     pub(crate) fn end_reading(&mut self)
-        ensures desk { desk_of self.new ≡ desk_of self.old }
-        ensures state { state_of self.new ≡ record (state_of self.old) { found = None; given = 0 } }
+        ensures desk { sure_desk self.new ≡ sure_desk self.old }
+        ensures state { sure_state self.new ≡ record (sure_state self.old) { found = None; given = 0 } }
     {
         self.found = None;
         self.given = 0;
@@ -77,15 +77,15 @@ impl SureFolder {
 
     // Ends the making of a file, which gets no place among the files.
     pub(crate) fn end_making(&mut self)
-        ensures desk { desk_of self.new ≡ desk_of self.old }
-        ensures state { state_of self.new ≡ record (state_of self.old) { making = false } }
+        ensures desk { sure_desk self.new ≡ sure_desk self.old }
+        ensures state { sure_state self.new ≡ record (sure_state self.old) { making = false } }
     {
         self.making = false;
     }
 
     /// The bytes of a file.
     pub fn file(&self, name: &str) -> Option<&[u8]>
-        ensures { option_copied result ≡ get (desk_of self.now).files name.now }
+        ensures { option_copied result ≡ get (sure_desk self.now).files name.now }
     {
         match self.files.get(name) {
             Some(bytes) => Some(bytes.as_slice()),
@@ -95,21 +95,21 @@ impl SureFolder {
 
     /// How many files there are.
     pub fn len(&self) -> usize
-        ensures { result ≡ len (desk_of self.now).files }
+        ensures { result ≡ len (sure_desk self.now).files }
     {
         self.files.len()
     }
 
     /// The bytes of the file being made, or last made.
     pub fn made(&self) -> &[u8]
-        ensures { result.now ≡ (desk_of self.now).made }
+        ensures { result.now ≡ (sure_desk self.now).made }
     {
         self.made.as_slice()
     }
 
     /// What was said on a channel.
     pub fn said(&self, channel: Channel) -> &[u8]
-        ensures { result.now ≡ said_on channel (desk_of self.now) }
+        ensures { result.now ≡ said_on channel (sure_desk self.now) }
     {
         match channel {
             Channel::Out => self.out.as_slice(),
@@ -120,11 +120,11 @@ impl SureFolder {
 
 impl Folder for SureFolder {
     ghost use Rattle.std.specs.Prelude.{Some};
-    ghost use Rattle.mk_desk.specs.SureFolders.{desk_of, state_of};
+    ghost use Rattle.mk_desk.specs.SureFolders.{sure_desk, sure_state};
 
-    ghost told = { λ folder. Some (desk_of folder) };
+    ghost told = { λ folder. Some (sure_desk folder) };
 
-    ghost state = { state_of };
+    ghost state = { sure_state };
 
     fn start_read(&mut self, name: &str) -> Result<Found, DeskFault> {
         self.found = None;

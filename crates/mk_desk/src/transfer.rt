@@ -1,7 +1,7 @@
 //! Whole files and whole pieces over a folder, which may move only some bytes at each call.
 
 ghost use Rattle.std.specs.Prelude.{◌≡◌, ◌+◌, ◌-◌, ◌<◌, ◌≤◌, ◌^◌, ◌↔◌, ℕ, true, [], vec_len, IfOk, IfSome, IsOk, IsErrOf};
-ghost use Rattle.mk_desk.specs.Folders.{HasCause, WhereTold, last_count};
+ghost use Rattle.mk_desk.specs.Folders.{HasCause, OnlyFaultsRose, OnlyReadingMoved, WhereTold, last_count};
 ghost use Rattle.mk_desk.specs.Transfers.{Loads, ReadsRest, PutsAll, SaysAll, passed_on};
 ghost use Rattle.mk_desk.specs.declared.folder.Found.TheVariants.{Here, Absent};
 ghost use Rattle.mk_desk.specs.declared.transfer.LoadFault.TheVariants.{Memory, FileSize};
@@ -61,7 +61,7 @@ pub fn load<F: Folder>(
     ensures here { IfOk result (λ file. IfSome file (λ _. (F.state folder.new).found ≡ Some Here)) }
     ensures size_here { (read : ℕ) → IsErrOf result (FileSize read) → (F.state folder.new).found ≡ Some Here }
     ensures absent { result ≡ Ok None → (F.state folder.new).given ≡ 0 }
-    ensures making { (F.state folder.new).making ≡ (F.state folder.old).making }
+    ensures state { OnlyReadingMoved (F.state folder.old) (F.state folder.new) }
     ensures cause { HasCause LoadFault.Failed (F.state folder.old) (F.state folder.new) result }
     ensures told { WhereTold (F.told folder.old) (F.told folder.new) (Loads name.now limit result) }
 {
@@ -76,11 +76,11 @@ fn read_rest<F: Folder>(alloc: Global, folder: &mut F, limit: u64) -> Result<Vec
     requires limit { limit < last_count }
     requires here { (F.state folder.old).found ≡ Some Here }
     requires given { (F.state folder.old).given ≡ 0 }
-    ensures here { (F.state folder.new).found ≡ Some Here }
+    ensures state { F.state folder.new
+        ≡ record (F.state folder.old) { given = (F.state folder.new).given; faults = (F.state folder.new).faults } }
     ensures whole { IfOk result (λ bytes. ((F.state folder.new).given ≡ vec_len bytes) × (vec_len bytes ≤ limit)) }
     ensures size { (result ≡ Err (FileSize (limit + 1))) ↔ ((F.state folder.new).given ≡ limit + 1) }
     ensures one_size { (read : ℕ) → IsErrOf result (FileSize read) → read ≡ limit + 1 }
-    ensures making { (F.state folder.new).making ≡ (F.state folder.old).making }
     ensures cause { HasCause LoadFault.Failed (F.state folder.old) (F.state folder.new) result }
     ensures told { WhereTold (F.told folder.old) (F.told folder.new) (ReadsRest limit result) }
 {
@@ -105,9 +105,7 @@ fn read_rest<F: Folder>(alloc: Global, folder: &mut F, limit: u64) -> Result<Vec
 /// An error is the folder's: then a prefix of the piece was appended.
 pub fn put_all<F: Folder>(folder: &mut F, piece: &[u8]) -> Result<(), DeskFault>
     requires { (F.state folder.old).making ≡ true }
-    ensures making { (F.state folder.new).making ≡ true }
-    ensures found { (F.state folder.new).found ≡ (F.state folder.old).found }
-    ensures given { (F.state folder.new).given ≡ (F.state folder.old).given }
+    ensures state { OnlyFaultsRose (F.state folder.old) (F.state folder.new) }
     ensures cause { HasCause DeskFault.Failed (F.state folder.old) (F.state folder.new) result }
     ensures empty { piece.now ≡ [] → IsOk result × (folder.new ≡ folder.old) }
     ensures told { WhereTold (F.told folder.old) (F.told folder.new) (PutsAll piece.now result) }
@@ -123,9 +121,7 @@ pub fn put_all<F: Folder>(folder: &mut F, piece: &[u8]) -> Result<(), DeskFault>
 ///
 /// An error is the folder's: then a prefix of the piece was said.
 pub fn say_all<F: Folder>(folder: &mut F, channel: Channel, piece: &[u8]) -> Result<(), DeskFault>
-    ensures making { (F.state folder.new).making ≡ (F.state folder.old).making }
-    ensures found { (F.state folder.new).found ≡ (F.state folder.old).found }
-    ensures given { (F.state folder.new).given ≡ (F.state folder.old).given }
+    ensures state { OnlyFaultsRose (F.state folder.old) (F.state folder.new) }
     ensures cause { HasCause DeskFault.Failed (F.state folder.old) (F.state folder.new) result }
     ensures empty { piece.now ≡ [] → IsOk result × (folder.new ≡ folder.old) }
     ensures told { WhereTold (F.told folder.old) (F.told folder.new) (SaysAll channel piece.now result) }

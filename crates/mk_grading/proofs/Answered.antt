@@ -1,6 +1,6 @@
 -- What a call that chooses a grading says of its answer.
 use Rattle.std.proofs.Common.{◌≡◌, ◌⊎◌, inl, inr, List, All, Any, Option, Some, None, Result, Ok, Err, IfOk, IfErr, IfSome, refl, sym, subst, ℤ}
-use Rattle.mk_model.specs.Tables.{Grid, rows_of}
+use Rattle.mk_model.specs.Tables.{Grid}
 use Rattle.mk_model.specs.ChosenGradings.{IsGradingOf, IsSmallEntry, IsColumnWeight, FitsMatrix, FitsGrade, IsGradeOf, HasNoSource}
 use Rattle.mk_grading.specs.Choices.{IsGradeFault}
 use Rattle.mk_grading.specs.declared.fault.GradeFault.{GradeFault}

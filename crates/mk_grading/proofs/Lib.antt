@@ -5,5 +5,4 @@ pub mod OneChoice
 pub mod RowsAdded
 pub mod RowsRead
 pub mod RowsSummed
-pub mod SmallProducts
 pub mod SourcesTried

@@ -10,10 +10,11 @@ use Rattle.mk_desk.proofs.Loading.{the_error}
 use Rattle.mk_grading.specs.Choices.{IsGradeFault}
 use Rattle.mk_grading.specs.declared.fault.GradeFault.{GradeFault}
 use Rattle.mk_grading.specs.declared.fault.GradeFault.TheVariants.{Memory as ChoiceMemory}
-use Rattle.mk_solve.specs.declared.fault.InputFile.{InputFile}
-use Rattle.mk_solve.specs.declared.fault.InputFile.TheVariants.{Lat, Mat, Grade}
-use Rattle.mk_solve.specs.declared.fault.InputFault.TheVariants.{Table, Grade as NoGrade}
-use Rattle.mk_input.specs.Projects.{lat_name, mat_name, grade_name, project_files, lattice_limits, small_limits, HasTable, MayHaveTable, HasTables}
+use Rattle.mk_project.specs.declared.file.InputFile.{InputFile}
+use Rattle.mk_project.specs.declared.file.InputFile.TheVariants.{Lat, Mat, Grade}
+use Rattle.mk_project.specs.declared.fault.InputFault.TheVariants.{Table, Grade as NoGrade}
+use Rattle.mk_project.specs.Files.{name_of, limits_for}
+use Rattle.mk_input.specs.Projects.{project_files, HasTable, MayHaveTable, HasTables}
 use Rattle.mk_input.specs.Readings.{OnlyRead, ReadsFile, ReadsProject, table_refused, choice_refused}
 use Rattle.mk_input.specs.declared.problem.Problem.{Problem}
 use Rattle.mk_input.specs.declared.fault.ReadFault.{ReadFault}
@@ -34,27 +35,27 @@ only_read_then x y z first then = then ∙ ap (λ (d : Desk). record d { rest = 
 -- the tables of a lattice and of a matrix were read
 abbrev pub ReadsTwo : List ℕ → Grid → Option Grid → Desk → Desk → Type 0
 ReadsTwo project lat mat x z =
-    HasTable lattice_limits (get x.files (lat_name project)) lat × MayHaveTable small_limits (get x.files (mat_name project)) mat × OnlyRead x z
+    HasTable (limits_for Lat) (get x.files (name_of Lat project)) lat × MayHaveTable (limits_for Mat) (get x.files (name_of Mat project)) mat × OnlyRead x z
 
 -- all three were read
 abbrev pub ReadsThree : List ℕ → Grid → Option Grid → Option Grid → Desk → Desk → Type 0
 ReadsThree project lat mat grade x w = HasTables (project_files x.files project) lat mat grade × OnlyRead x w
 
-pub two_read : (project : List ℕ) (lat : Grid) (mat : Option Grid) (x y z : Desk) → ReadsFile Lat lattice_limits project (Ok (Some lat)) x y
-    → ReadsFile Mat small_limits project (Ok mat) y z → ReadsTwo project lat mat x z
+pub two_read : (project : List ℕ) (lat : Grid) (mat : Option Grid) (x y z : Desk) → ReadsFile Lat project (Ok (Some lat)) x y
+    → ReadsFile Mat project (Ok mat) y z → ReadsTwo project lat mat x z
 two_read project lat mat x y z first then = (
   first.0,
-  subst (λ (files : Files). MayHaveTable small_limits (get files (mat_name project)) mat) (files_kept x y first.1) then.0,
+  subst (λ (files : Files). MayHaveTable (limits_for Mat) (get files (name_of Mat project)) mat) (files_kept x y first.1) then.0,
   only_read_then x y z first.1 then.1,
 )
 
 pub three_read : (project : List ℕ) (lat : Grid) (mat grade : Option Grid) (x z w : Desk) → ReadsTwo project lat mat x z
-    → ReadsFile Grade small_limits project (Ok grade) z w → ReadsThree project lat mat grade x w
+    → ReadsFile Grade project (Ok grade) z w → ReadsThree project lat mat grade x w
 three_read project lat mat grade x z w two then = (
   record {
     lattice = two.0;
     matrix = two.1;
-    grade_table = subst (λ (files : Files). MayHaveTable small_limits (get files (grade_name project)) grade) (files_kept x z two.2) then.0;
+    grade_table = subst (λ (files : Files). MayHaveTable (limits_for Grade) (get files (name_of Grade project)) grade) (files_kept x z two.2) then.0;
   },
   only_read_then x z w two.2 then.1,
 )

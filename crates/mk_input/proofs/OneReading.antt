@@ -8,11 +8,13 @@ use Rattle.mk_files.specs.declared.fault.TableFault.TheVariants.{Memory as Table
 use Rattle.mk_files.proofs.FaultsFound.{gives_fault}
 use Rattle.mk_grading.specs.declared.fault.GradeFault.{GradeFault}
 use Rattle.mk_grading.proofs.OneChoice.{IsChoice, only_choice}
-use Rattle.mk_solve.specs.declared.fault.InputFile.{InputFile}
-use Rattle.mk_solve.specs.declared.fault.InputFile.TheVariants.{Lat, Mat, Grade}
-use Rattle.mk_solve.specs.declared.fault.InputFault.{InputFault}
-use Rattle.mk_solve.specs.declared.fault.InputFault.TheVariants.{NoLattice, FileSize, Table, Grade as NoGrade}
-use Rattle.mk_input.specs.Projects.{ProjectFiles, file_limit, lattice_limits, small_limits, HasTable, MayHaveTable, IsNoTable, IsProblem, IsFaulty}
+use Rattle.mk_project.specs.declared.file.InputFile.{InputFile}
+use Rattle.mk_project.specs.declared.file.InputFile.TheVariants.{Lat, Mat, Grade}
+use Rattle.mk_project.specs.declared.fault.InputFault.{InputFault}
+use Rattle.mk_project.specs.declared.fault.InputFault.TheVariants.{NoLattice, FileSize, Table, Grade as NoGrade}
+use Rattle.mk_project.specs.Files.{limits_for}
+use Rattle.mk_project.specs.declared.file.TheConstants.{FILE_LIMIT}
+use Rattle.mk_input.specs.Projects.{ProjectFiles, HasTable, MayHaveTable, IsNoTable, IsProblem, IsFaulty}
 
 -- ---- one text
 no_fault_of : (bytes : List ℕ) (limits : Limits) (grid : Grid) (fault : TableFault) → ReadsTable bytes limits grid → IsFaultOf bytes limits fault → ⊥
@@ -35,14 +37,14 @@ data Outcome : Type 0 where
 
 abbrev IsOutcome : Limits → Option (List ℕ) → Outcome → Type 0
 IsOutcome limits file (Read grid) = MayHaveTable limits file grid
-IsOutcome limits file TooLong = IsSomeAnd file (λ bytes. file_limit < length bytes)
+IsOutcome limits file TooLong = IsSomeAnd file (λ bytes. FILE_LIMIT < length bytes)
 IsOutcome limits file (NoTable fault) = IsNoTable limits file fault
 
 -- the table of a file that is there
-its_table : (limits : Limits) (bytes : List ℕ) (grid : Grid) → HasTable limits (Some bytes) grid → (length bytes ≤ file_limit) × ReadsTable bytes limits grid
+its_table : (limits : Limits) (bytes : List ℕ) (grid : Grid) → HasTable limits (Some bytes) grid → (length bytes ≤ FILE_LIMIT) × ReadsTable bytes limits grid
 its_table limits bytes grid h =
     let same : h.bytes ≡ bytes = let there = h.there in cc in
-    (subst (λ (b : List ℕ). length b ≤ file_limit) same h.short, subst (λ (b : List ℕ). ReadsTable b limits grid) same h.read)
+    (subst (λ (b : List ℕ). length b ≤ FILE_LIMIT) same h.short, subst (λ (b : List ℕ). ReadsTable b limits grid) same h.read)
 
 one_outcome : (limits : Limits) (file : Option (List ℕ)) (a b : Outcome) → IsOutcome limits file a → IsOutcome limits file b → a ≡ b
 one_outcome limits None (Read None) (Read None) h k = refl
@@ -73,11 +75,11 @@ Reading = Result (Grid × List ℤ) InputFault
 -- the fault of the file, or what is read after it
 abbrev After : InputFile → (Option Grid → Reading → Type 0) → Outcome → Reading → Type 0
 After file Next (Read grid) r = Next grid r
-After file Next TooLong r = r ≡ Err (FileSize file (file_limit + 1))
+After file Next TooLong r = r ≡ Err (FileSize file (FILE_LIMIT + 1))
 After file Next (NoTable fault) r = r ≡ Err (Table file fault)
 
-abbrev Reads : InputFile → Limits → Option (List ℕ) → (Option Grid → Reading → Type 0) → Reading → Type 0
-Reads file limits bytes Next r = (o : Outcome) × IsOutcome limits bytes o × After file Next o r
+abbrev Reads : InputFile → Option (List ℕ) → (Option Grid → Reading → Type 0) → Reading → Type 0
+Reads file bytes Next r = (o : Outcome) × IsOutcome (limits_for file) bytes o × After file Next o r
 
 one_after : (file : InputFile) (Next : Option Grid → Reading → Type 0) → ((grid : Option Grid) (r s : Reading) → Next grid r → Next grid s → r ≡ s)
     → (o : Outcome) (r s : Reading) → After file Next o r → After file Next o s → r ≡ s
@@ -85,10 +87,10 @@ one_after file Next one (Read grid) r s h k = one grid r s h k
 one_after file Next one TooLong r s h k = h ∙ sym k
 one_after file Next one (NoTable fault) r s h k = h ∙ sym k
 
-one_read : (file : InputFile) (limits : Limits) (bytes : Option (List ℕ)) (Next : Option Grid → Reading → Type 0) → ((grid : Option Grid) (r s : Reading) → Next grid r → Next grid s → r ≡ s)
-    → (r s : Reading) → Reads file limits bytes Next r → Reads file limits bytes Next s → r ≡ s
-one_read file limits bytes Next one r s h k =
-    one_after file Next one k.0 r s (subst (λ (o : Outcome). After file Next o r) (one_outcome limits bytes h.0 k.0 h.1 k.1) h.2) k.2
+one_read : (file : InputFile) (bytes : Option (List ℕ)) (Next : Option Grid → Reading → Type 0) → ((grid : Option Grid) (r s : Reading) → Next grid r → Next grid s → r ≡ s)
+    → (r s : Reading) → Reads file bytes Next r → Reads file bytes Next s → r ≡ s
+one_read file bytes Next one r s h k =
+    one_after file Next one k.0 r s (subst (λ (o : Outcome). After file Next o r) (one_outcome (limits_for file) bytes h.0 k.0 h.1 k.1) h.2) k.2
 
 -- the choice for the three tables
 abbrev chosen : Grid → Result (List ℤ) GradeFault → Reading
@@ -103,28 +105,28 @@ one_chosen lat mat grade r s h k = h.2 ∙ ap (chosen lat) (only_choice lat mat 
 
 module _ (files : ProjectFiles) where
   abbrev ReadsGrade : Grid → Option Grid → Reading → Type 0
-  ReadsGrade lat mat = Reads Grade small_limits files.grade (Chooses lat mat)
+  ReadsGrade lat mat = Reads Grade files.grade (Chooses lat mat)
 
   abbrev ReadsMatrix : Option Grid → Reading → Type 0
   ReadsMatrix None r = r ≡ Err NoLattice
-  ReadsMatrix (Some lat) r = Reads Mat small_limits files.mat (ReadsGrade lat) r
+  ReadsMatrix (Some lat) r = Reads Mat files.mat (ReadsGrade lat) r
 
   one_grade : (lat : Grid) (mat : Option Grid) (r s : Reading) → ReadsGrade lat mat r → ReadsGrade lat mat s → r ≡ s
-  one_grade lat mat = one_read Grade small_limits files.grade (Chooses lat mat) (one_chosen lat mat)
+  one_grade lat mat = one_read Grade files.grade (Chooses lat mat) (one_chosen lat mat)
 
   one_matrix : (lat : Option Grid) (r s : Reading) → ReadsMatrix lat r → ReadsMatrix lat s → r ≡ s
   one_matrix None r s h k = h ∙ sym k
-  one_matrix (Some lat) r s h k = one_read Mat small_limits files.mat (ReadsGrade lat) (one_grade lat) r s h k
+  one_matrix (Some lat) r s h k = one_read Mat files.mat (ReadsGrade lat) (one_grade lat) r s h k
 
   -- the problem, or the fault
   abbrev IsReading : Reading → Type 0
   IsReading (Ok problem) = IsProblem files problem.0 problem.1
   IsReading (Err fault) = IsFaulty files fault
 
-  too_long : (file : InputFile) (read : ℕ) → read ≡ file_limit + 1 → ◌≡◌ {A = Reading} (Err (FileSize file read)) (Err (FileSize file (file_limit + 1)))
+  too_long : (file : InputFile) (read : ℕ) → read ≡ FILE_LIMIT + 1 → ◌≡◌ {A = Reading} (Err (FileSize file read)) (Err (FileSize file (FILE_LIMIT + 1)))
   too_long file read e = ap (λ n. Err (FileSize file n)) e
 
-  in_turn : (r : Reading) → IsReading r → Reads Lat lattice_limits files.lat ReadsMatrix r
+  in_turn : (r : Reading) → IsReading r → Reads Lat files.lat ReadsMatrix r
   in_turn (Ok problem) h = (
     Read (Some problem.0),
     h.tables.lattice,
@@ -150,7 +152,7 @@ module _ (files : ProjectFiles) where
       (Read (Some h.0), h.3.lattice, (Read h.1, h.3.matrix, (Read h.2, h.3.grade_table, (Err fault, h.4, refl))))
 
   one_reading : (r s : Reading) → IsReading r → IsReading s → r ≡ s
-  one_reading r s h k = one_read Lat lattice_limits files.lat ReadsMatrix one_matrix r s (in_turn r h) (in_turn s k)
+  one_reading r s h k = one_read Lat files.lat ReadsMatrix one_matrix r s (in_turn r h) (in_turn s k)
 
   -- ---- the laws
   pub one_fault : (fault other : InputFault) → IsFaulty files fault → IsFaulty files other → fault ≡ other

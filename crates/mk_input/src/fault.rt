@@ -4,7 +4,7 @@ ghost use Rattle.mk_input.specs.Readings.{load_refused, table_refused};
 use mk_desk::LoadFault;
 use mk_files::TableFault;
 use mk_grading::GradeFault;
-use mk_solve::{InputFault, InputFile};
+use mk_project::{InputFault, InputFile};
 use std::alloc::AllocError;
 
 /// Why a project isn't read.

@@ -2,7 +2,7 @@
 
 ghost use Rattle.std.specs.Prelude.{◌≡◌, List, ℤ};
 ghost use Rattle.mk_model.specs.Tables.{Grid};
-ghost use Rattle.mk_solve.specs.declared.fault.InputFault.{InputFault};
+ghost use Rattle.mk_project.specs.declared.fault.InputFault.{InputFault};
 ghost use Rattle.mk_input.specs.Projects.{ProjectFiles, IsProblem, IsFaulty};
 
 /// A project's files have one fault at most.

@@ -3,7 +3,6 @@
 
 mod fault;
 mod laws;
-mod names;
 mod problem;
 mod reading;
 #[cfg(test)]
@@ -11,7 +10,6 @@ mod tests;
 
 pub use fault::ReadFault;
 pub use laws::{faults_exclude_each_other, problem_has_no_fault};
-pub use mk_solve::{InputFault, InputFile};
-pub use names::file_name;
+pub use mk_project::{InputFault, InputFile};
 pub use problem::Problem;
 pub use reading::read_project;

@@ -191,7 +191,7 @@ pub oriented_belongs : (basis : BasisView) → IsBasis basis → (left link : We
 oriented_belongs basis h left link r o graded = record {
   columns = length-oriented left.entries basis.priority link.entries o ∙ r.columns ∙ sym h.columns;
   graded = graded basis.grading r.graded;
-  oriented = o.oriented;
+  oriented = o.turned.oriented;
 }
 
 pub added_link : (basis : BasisView) → IsBasis basis → (m left link : Weighed) (links given after : List Weighed) (left_is : Option Weighed) → given ≡ links → left_is ≡ Some left → IsLeftOf (vectors_of given) basis.grading m.entries left_is →
@@ -199,4 +199,4 @@ pub added_link : (basis : BasisView) → IsBasis basis → (m left link : Weighe
 added_link basis h m left link links given after left_is same some leaves o graded more =
     let there : IsLeftOf (vectors_of links) basis.grading m.entries (Some left) =
     subst (λ (x : Option Weighed). IsLeftOf (vectors_of links) basis.grading m.entries x) some (subst (λ (xs : List Weighed). IsLeftOf (vectors_of xs) basis.grading m.entries left_is) same leaves) in
-    record { left = Some left; leaves = there; added = (link, more, oriented_belongs basis h left link there.rest o graded, o.either) }
+    record { left = Some left; leaves = there; added = (link, more, oriented_belongs basis h left link there.rest o graded, o.turned.either) }

@@ -1,5 +1,5 @@
 -- Components of fibres and the reduced basis: which of its moves are essential.
-use Rattle.std.proofs.Common.{◌⊎◌, inl, inr, ℕ, List, ℤ, ◌<ℤ◌, All, AllPairs, Contains, arith, ap, subst, ⊎_elim}
+use Rattle.std.proofs.Common.{◌≡◌, ◌⊎◌, inl, inr, ℕ, List, ℤ, ◌≤ℤ◌, ◌<ℤ◌, All, AllPairs, Contains, arith, ap, sym, subst, ⊎_elim}
 use Rattle.std.proofs.lemmas.Int.{ints}
 use Rattle.std.proofs.lemmas.List.Elements.{All-weaker}
 use Rattle.mk_model.specs.Vectors.{weight}
@@ -9,9 +9,12 @@ use Rattle.mk_model.specs.Walks.{Joined, Members}
 use Rattle.mk_model.specs.Walks.Walk.{stay, step}
 use Rattle.mk_model.specs.Bases.{IsMove, IsEssential, IsAnswer}
 use Rattle.mk_model.specs.ReducedBases.{IsLeast, IsReducedBasis, LighterMoves, IsLeastOfComponent}
-use Rattle.mk_model.proofs.WalkLaws.{walk_from, walk_weaker}
+use Rattle.mk_model.proofs.VectorAlgebra.{parts}
+use Rattle.mk_model.proofs.WalkLaws.{walk_from, walk_weaker, walk_stays}
+use Rattle.mk_model.proofs.OrderLaws.{IsBelow-not_same}
 use Rattle.mk_model.proofs.MoveLaws.{IsMove-columns, IsMove-lead, IsMove-tail, IsMove-ends, IsMove-same_weight}
-use Rattle.mk_model.proofs.Fibres.{AreEnds, ends_of_step, step_weight, walk_replace, step_by_parts}
+use Rattle.mk_model.proofs.Fibres.{AreEnds, difference_step, ends_of_step, step_weight, walk_replace, step_by_parts}
+use Rattle.mk_model.proofs.NormalForms.{All-from_contains}
 use Rattle.mk_model.proofs.StarLaws.{essential_from_ends, joined_from_lighter}
 use Rattle.mk_model.proofs.ReducedLaws.{reduced_ends, member_reduced, member_move, reduced_joins, answer_from_reduced}
 
@@ -20,6 +23,10 @@ abbrev pub LighterMembers : List ℤ → List (List ℤ) → ℤ → List ℤ �
 LighterMembers w moves bound m = Contains moves m × (weight w (lead m) <ℤ bound)
 
 module _ {n : ℕ} {rows : List (List ℤ)} {w : List ℤ} (g : HasGrading (lattice_of n rows w)) where
+  -- a move joins its own ends
+  pub ends_joined : {set : List ℤ → Type 0} {m : List ℤ} → IsMove n rows m → set m → Joined n set (lead m) (tail m)
+  ends_joined {set} {m} a s = difference_step g (lead m) (tail m) (IsMove-lead g a) (IsMove-tail g a) (subst set (sym (parts m)) s)
+
   -- a walk through points lighter than a bound is by moves that are
   pub walk_is_lighter : (moves : List (List ℤ)) → ((m : List ℤ) → Contains moves m → IsMove n rows m) → (bound : ℤ) (x y : List ℤ) → weight w x <ℤ bound →
       Joined n (Members moves) x y → Joined n (LighterMembers w moves bound) x y
@@ -53,6 +60,14 @@ module _ {n : ℕ} {rows : List (List ℤ)} {w : List ℤ} (g : HasGrading (latt
         let reduced = member_reduced g basis m c in
         essential_from_ends g (member_move g basis m c) first (subst (IsLeast n rows) ((reduced_ends g reduced).1) reduced.least)
 
+    -- the lead of a lightest member is the least of its component
+    pub lightest_is_least : (m : List ℤ) → Contains moves m → ((v : List ℤ) → Contains moves v → weight w (lead m) ≤ℤ weight w (lead v)) → IsLeastOfComponent (lattice_of n rows w) (lead m)
+    lightest_is_least m c lightest = record {
+      point = IsMove-lead g (member_move g basis m c);
+      none_below = λ y j b. IsBelow-not_same (standard n) y (lead m)
+          (sym (walk_stays (λ v (h, l). omega (arith, ints, l, lightest v h)) (lighter_by_members (weight w (lead m)) j))) b;
+    }
+
     -- The members whose lead is the least of its component, ascending, are the answer: from the lead of each other
     -- member lighter moves lead to a vector below it.
     pub answer_from_components : {chosen : List (List ℤ)} → AllPairs (ComesBefore n w) chosen → All (λ m. Contains moves m × IsLeastOfComponent (lattice_of n rows w) (lead m)) chosen →
@@ -62,3 +77,10 @@ module _ {n : ℕ} {rows : List (List ℤ)} {w : List ℤ} (g : HasGrading (latt
         answer_from_reduced g basis ascending
         (All-weaker (λ m. Contains moves m × IsLeastOfComponent (lattice_of n rows w) (lead m)) (IsEssential (lattice_of n rows w)) (λ m (c, l). member_is_essential m c l) chosen first)
         (λ m c. ⊎_elim inl (λ (x, b, j). inr (joined_from_lighter g (member_move g basis m c) x j b)) (others m c))
+
+    -- moves of one weight are all essential
+    pub answer_of_one_weight : (bound : ℤ) → ((m : List ℤ) → Contains moves m → weight w (lead m) ≡ bound) → IsAnswer (lattice_of n rows w) moves
+    answer_of_one_weight bound same =
+        answer_from_components basis.ascending
+        (All-from_contains (λ m. Contains moves m × IsLeastOfComponent (lattice_of n rows w) (lead m)) moves
+        (λ m c. (c, lightest_is_least m c (λ v h. omega (arith, ints, same m c, same v h))))) (λ m c. inl c)

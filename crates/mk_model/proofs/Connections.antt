@@ -8,7 +8,7 @@ use Rattle.std.proofs.Common.{length-set}
 use Rattle.std.proofs.lemmas.List.Elements.{All-contains}
 use borrow.Author.Differences.{up}
 use lib.IntN.{*ℤ_comm, *ℤ-zero}
-use Rattle.mk_model.specs.Vectors.{entry, add, subtract, negate, scale, positive_part, negative_part, IsPoint}
+use Rattle.mk_model.specs.Vectors.{entry, zeros, add, subtract, negate, scale, positive_part, negative_part, IsPoint}
 use Rattle.mk_model.specs.Lattices.{lattice_of, InLattice, HasGrading}
 use Rattle.mk_model.specs.Walks.{Members, Joined}
 use Rattle.mk_model.specs.Orders.{IsBelow, IsOriented, lead}
@@ -18,7 +18,7 @@ use Rattle.mk_model.specs.Reductions.Reaches.{here, go}
 use Rattle.mk_model.specs.Pairs.{AreOrientedMoves, EveryPairJoined}
 use Rattle.mk_model.specs.Saturation.{IsSupported, without_column, JoinedUpTo, ConnectedUpTo}
 use Rattle.mk_model.proofs.Integers.{product_nonnegative, product_at_least}
-use Rattle.mk_model.proofs.VectorAlgebra.{lengths, columns, entries, same_vectors, entry-scale, add_at, subtract_at, positive_part_at, negative_part_at, add_assoc, negate-subtract, negate-scale, scale-negate, IsPoint-add, IsPoint-positive_part, IsPoint-negative_part}
+use Rattle.mk_model.proofs.VectorAlgebra.{lengths, columns, entries, same_vectors, entry-scale, entry-zeros, add-zeros, add_at, subtract_at, positive_part_at, negative_part_at, add_assoc, negate-subtract, negate-scale, scale-negate, IsPoint-add, IsPoint-positive_part, IsPoint-negative_part}
 use Rattle.mk_model.proofs.LatticeLaws.{InLattice-columns}
 use Rattle.mk_model.proofs.WalkLaws.{walk_append, walk_back, walk_along}
 use Rattle.mk_model.proofs.Translation.{joined_translate, subtract-exchange_last}
@@ -75,6 +75,15 @@ markov_from_connected n rows unsaturated moves none a connected = record { in_la
 
         ends : {a b : List ℤ} → a ≡ x → b ≡ y → Joined n (Members moves) a b → Joined n (Members moves) x y
         ends e f walk = rw (e, f) at walk
+
+-- and a Markov basis is connected up to any columns: the vector 0 is added
+pub connected_from_markov : (n : ℕ) (rows : List (List ℤ)) (unsaturated : ℕ → Bool) (moves : List (List ℤ)) → IsMarkov n rows moves → ConnectedUpTo n rows unsaturated moves
+connected_from_markov n rows unsaturated moves markov x y q r h = record {
+  added = zeros n;
+  point = record { columns = omega (arith, lengths); nonnegative = λ c. omega (arith, ints, columns) };
+  supported = λ c f. entry-zeros n c;
+  joined = rw (add-zeros x n (omega (arith, q.columns)), add-zeros y n (omega (arith, r.columns))) (markov.joins x y q r h);
+}
 
 -- ---- a column leaves after completion for a priority list that begins with it
 module _ {n : ℕ} {rows : List (List ℤ)} {w : List ℤ} {i : ℕ} {p : List ℕ} {moves : List (List ℤ)} (o : AreOrientedMoves (lattice_of n rows w) (i ∷ p) moves) where

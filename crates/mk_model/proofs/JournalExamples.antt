@@ -1,5 +1,5 @@
--- A journal that replays, and the same with its first two entries exchanged, which does not.
-use Rattle.std.proofs.Common.{◌≡◌, inl, inr, ℕ, zero, suc, List, [], ◌∷◌, ℤ, pos, negsuc, false, arith, ap, refl, sym, subst, ⊎_elim}
+-- A journal that replays, and the same with its cubic_top two entries exchanged, which does not.
+use Rattle.std.proofs.Common.{◌≡◌, inl, inr, zero, suc, List, [], ◌∷◌, ℤ, pos, negsuc, false, arith, ap, refl, sym, subst, ⊎_elim}
 use Rattle.std.proofs.lemmas.Bool.{both_ways}
 use Rattle.std.proofs.lemmas.Int.{ints}
 use Rattle.mk_model.specs.Vectors.{entry, zeros, combine, add, subtract, negate, scale, positive_part, negative_part}
@@ -8,35 +8,14 @@ use Rattle.mk_model.specs.Reductions.{Divides, Reduct, IsIrreducible}
 use Rattle.mk_model.specs.Reductions.Reaches.{here, go}
 use Rattle.mk_model.specs.Pairs.{AreDisjoint}
 use Rattle.mk_model.specs.Saturation.{divides}
-use Rattle.mk_model.specs.CoreStates.{Pair, pair_of, Settle, settle, IsSettled}
-use Rattle.mk_model.specs.CoreStates.Way.{Coprime, Zero, Place}
+use Rattle.mk_model.specs.CoreStates.{Pair, pair_of, Settle, IsSettled}
 use Rattle.mk_model.specs.Events.{HasNormalReduct, IsPlaced}
 use Rattle.mk_model.specs.Legal.{IsNext, Replays}
+use Rattle.mk_model.specs.Worked.{cubic_top, cubic_second, placed_move, column_one, start_moves, completed_moves, placing, reducing, skipping}
 use Rattle.mk_model.proofs.Lists.{Contains-none, Contains-cases}
 use Rattle.mk_model.proofs.Divisors.{Decides-divides, divides_true}
 
-abbrev pub first : List ℤ
-first = pos 1 ∷ negsuc 1 ∷ pos 1 ∷ pos 0 ∷ []
-
-abbrev pub second : List ℤ
-second = pos 0 ∷ negsuc 0 ∷ pos 2 ∷ negsuc 0 ∷ []
-
-abbrev pub third : List ℤ
-third = pos 1 ∷ negsuc 0 ∷ negsuc 0 ∷ pos 1 ∷ []
-
-abbrev pub column_one : List ℕ
-column_one = 1 ∷ 3 ∷ 2 ∷ 0 ∷ []
-
-abbrev pub placing : Settle
-placing = settle 0 (pair_of 0 1) (Place 2)
-
-abbrev pub reducing : Settle
-reducing = settle 0 (pair_of 0 2) Zero
-
-abbrev pub skipping : Settle
-skipping = settle 0 (pair_of 1 2) Coprime
-
-irreducible_more : (m : List ℤ) (moves : List (List ℤ)) (x : List ℤ) → divides (lead m) x ≡ false → IsIrreducible moves x → IsIrreducible (m ∷ moves) x
+pub irreducible_more : (m : List ℤ) (moves : List (List ℤ)) (x : List ℤ) → divides (lead m) x ≡ false → IsIrreducible moves x → IsIrreducible (m ∷ moves) x
 irreducible_more m moves x e none v h d =
     ⊎_elim (λ s. both_ways (divides (lead m) x) e ((Decides-divides (lead m) x).1 (subst (λ u. Divides (lead u) x) (sym s) d))) (λ k. none v k d)
     (Contains-cases m moves v h)
@@ -48,19 +27,19 @@ unsettled_more entry journal pair apart none (other, h, e) =
 pub none_settled : (pair : Pair) → ¬ (IsSettled [] pair)
 none_settled pair (entry, h, e) = Contains-none entry h
 
-difference_is_normal : HasNormalReduct (first ∷ second ∷ []) (pair_of 0 1)
+pub difference_is_normal : HasNormalReduct (start_moves) (pair_of 0 1)
 unfolding divides subtract combine positive_part negative_part negate
 difference_is_normal = record {
   remainder = negsuc 0 ∷ pos 1 ∷ pos 1 ∷ negsuc 0 ∷ [];
   reduct = here;
   normal = record {
     not_zero = refl;
-    positive = irreducible_more first (second ∷ []) _ refl (irreducible_more second [] _ refl (λ v h _. Contains-none v h));
-    negative = irreducible_more first (second ∷ []) _ refl (irreducible_more second [] _ refl (λ v h _. Contains-none v h));
+    positive = irreducible_more cubic_top (cubic_second ∷ []) _ refl (irreducible_more cubic_second [] _ refl (λ v h _. Contains-none v h));
+    negative = irreducible_more cubic_top (cubic_second ∷ []) _ refl (irreducible_more cubic_second [] _ refl (λ v h _. Contains-none v h));
   };
 }
 
-pub third_placed : IsPlaced column_one 3 (first ∷ second ∷ []) (pair_of 0 1) 2 third
+pub third_placed : IsPlaced column_one 3 (start_moves) (pair_of 0 1) 2 placed_move
 unfolding negate positive_part negative_part difference_is_normal
 third_placed = record {
   at_end = refl;
@@ -70,11 +49,11 @@ third_placed = record {
   sign = inr refl;
 }
 
-pub to_zero : Reduct (first ∷ second ∷ third ∷ []) (subtract third first) (zeros 4)
+pub to_zero : Reduct (completed_moves) (subtract placed_move cubic_top) (zeros 4)
 unfolding divides subtract add combine scale positive_part negative_part negate
-to_zero = go (record { move = second; member = (1, omega arith, refl); times = 1; some = omega arith; taken_off = inr (divides_true _ _ refl, refl) }) here
+to_zero = go (record { move = cubic_second; member = (1, omega arith, refl); times = 1; some = omega arith; taken_off = inr (divides_true _ _ refl, refl) }) here
 
-pub disjoint : AreDisjoint (lead second) (lead third)
+pub disjoint : AreDisjoint (lead cubic_second) (lead placed_move)
 unfolding positive_part
 disjoint zero = inl refl
 disjoint (suc zero) = inl refl
@@ -82,21 +61,21 @@ disjoint (suc (suc zero)) = inr refl
 disjoint (suc (suc (suc zero))) = inl refl
 disjoint (suc (suc (suc (suc c)))) = inl refl
 
-pub placing_next : IsNext 4 column_one 3 [] (first ∷ second ∷ []) placing (first ∷ second ∷ third ∷ [])
+pub placing_next : IsNext 4 column_one 3 [] (start_moves) placing (completed_moves)
 placing_next = record {
   of_moves = record { ordered = omega arith; within = omega arith };
   unsettled = none_settled (pair_of 0 1);
-  settled = (third, third_placed, refl);
+  settled = (placed_move, third_placed, refl);
 }
 
-pub reducing_next : IsNext 4 column_one 3 (placing ∷ []) (first ∷ second ∷ third ∷ []) reducing (first ∷ second ∷ third ∷ [])
+pub reducing_next : IsNext 4 column_one 3 (placing ∷ []) (completed_moves) reducing (completed_moves)
 reducing_next = record {
   of_moves = record { ordered = omega arith; within = omega arith };
   unsettled = unsettled_more placing [] (pair_of 0 2) (λ e. let f : 1 ≡ 2 = ap (λ (p : Pair). p.second) e in omega arith) (none_settled (pair_of 0 2));
   settled = (to_zero, refl);
 }
 
-pub skipping_next : IsNext 4 column_one 3 (placing ∷ reducing ∷ []) (first ∷ second ∷ third ∷ []) skipping (first ∷ second ∷ third ∷ [])
+pub skipping_next : IsNext 4 column_one 3 (placing ∷ reducing ∷ []) (completed_moves) skipping (completed_moves)
 skipping_next = record {
   of_moves = record { ordered = omega arith; within = omega arith };
   unsettled = unsettled_more placing (reducing ∷ []) (pair_of 1 2) (λ e. let f : 0 ≡ 1 = ap (λ (p : Pair). p.first) e in omega arith)
@@ -104,8 +83,8 @@ skipping_next = record {
   settled = (disjoint, refl);
 }
 
-pub in_order : Replays 4 column_one 3 [] (first ∷ second ∷ []) (placing ∷ reducing ∷ skipping ∷ []) (first ∷ second ∷ third ∷ [])
-in_order = (first ∷ second ∷ third ∷ [], placing_next, (first ∷ second ∷ third ∷ [], reducing_next, (first ∷ second ∷ third ∷ [], skipping_next, refl)))
+pub in_order : Replays 4 column_one 3 [] (start_moves) (placing ∷ reducing ∷ skipping ∷ []) (completed_moves)
+in_order = (completed_moves, placing_next, (completed_moves, reducing_next, (completed_moves, skipping_next, refl)))
 
-pub exchanged : ¬ (Replays 4 column_one 3 [] (first ∷ second ∷ []) (reducing ∷ placing ∷ skipping ∷ []) (first ∷ second ∷ third ∷ []))
+pub exchanged : ¬ (Replays 4 column_one 3 [] (start_moves) (reducing ∷ placing ∷ skipping ∷ []) (completed_moves))
 exchanged (after, next, rest) = let l = next.of_moves.within in omega arith

@@ -1,8 +1,8 @@
 -- The order along a priority list of columns, and the order of moves.
-use Rattle.std.proofs.Common.{◌≡◌, ◌⊎◌, inl, inr, ℕ, zero, suc, ◌≤◌, ◌<◌, List, [], ◌∷◌, length, ℤ, pos, negsuc, ◌<ℤ◌, arith, ap, refl, sym, ◌∙◌, subst, ⊎_elim, All}
+use Rattle.std.proofs.Common.{◌≡◌, ◌⊎◌, inl, inr, ℕ, zero, suc, ◌≤◌, ◌<◌, List, [], ◌∷◌, length, ℤ, pos, negsuc, ◌<ℤ◌, arith, ap, refl, sym, ◌∙◌, subst, ⊎_elim, All, Contains}
 use Rattle.std.proofs.lemmas.Int.{ints, by_lt_z}
 use Rattle.std.proofs.lemmas.List.{ext_get_or}
-use Rattle.std.proofs.lemmas.List.Elements.{All-nil, All-cons, All-head, All-tail, All-weaker}
+use Rattle.std.proofs.lemmas.List.Elements.{All-nil, All-cons, All-head, All-tail, All-weaker, All-contains, All-contains_itself}
 use Rattle.mk_model.specs.Vectors.{entry, add, subtract, negate, scale}
 use Rattle.mk_model.specs.Orders.{IsBelow, IsOriented, standard, lead, tail, ComesBefore}
 use Rattle.mk_model.proofs.Integers.{below_product, same_from_product}
@@ -49,6 +49,15 @@ All-standard P (suc n) h c l =
   where
     cases : (c n : ℕ) → c ≤ n → (c < n) ⊎ (n ≡ c)
     cases c n l = grind arith
+
+-- the standard list has every column
+pub standard_has : (n c : ℕ) → c < n → Contains (standard n) c
+standard_has n c l = All-standard (Contains (standard n)) n (All-contains_itself (standard n)) c l
+
+-- two vectors of n columns, and a list that has every column: one is below the other along it, or they are equal
+pub IsBelow-total_along : (n : ℕ) (p : List ℕ) (x y : List ℤ) → length x ≡ n → length y ≡ n → ((c : ℕ) → c < n → Contains p c) → (IsBelow p x y ⊎ IsBelow p y x) ⊎ (x ≡ y)
+IsBelow-total_along n p x y l k f =
+    ⊎_elim inl (λ h. inr (ext_get_or (pos 0) x y (omega arith) (λ c j. All-contains (λ c. entry x c ≡ entry y c) p c h (f c (omega arith))))) (IsBelow-total p x y)
 
 -- two vectors of n columns: one is below the other by the standard list, or they are equal
 pub IsBelow-total_standard : (n : ℕ) (x y : List ℤ) → length x ≡ n → length y ≡ n → (IsBelow (standard n) x y ⊎ IsBelow (standard n) y x) ⊎ (x ≡ y)

@@ -1,5 +1,5 @@
 -- Tests of the order of moves, which compute.
-use Rattle.std.proofs.Common.{◌≡◌, ℕ, Bool, true, false, ◌||◌, ◌&&◌, List, [], ◌∷◌, ℤ, pos, negsuc, ◌<ℤ◌, AllPairs, arith, refl}
+use Rattle.std.proofs.Common.{◌≡◌, ℕ, Bool, true, false, ◌||◌, ◌&&◌, List, [], ◌∷◌, ℤ, ◌<ℤ◌, AllPairs, arith, refl}
 use Rattle.std.specs.Bool.{Decides}
 use Rattle.std.specs.List.{list_all}
 use Rattle.std.specs.Ordering.{int_eq}
@@ -11,6 +11,7 @@ use Rattle.std.proofs.lemmas.Slice.Eq.{slice_eq-Decides}
 use Rattle.std.proofs.lemmas.List.Kept.{AllPairs-cons}
 use Rattle.mk_model.specs.Vectors.{entry, negate, positive_part, negative_part, weight}
 use Rattle.mk_model.specs.Lattices.{ones}
+use Rattle.mk_model.specs.Worked.{nine_moves}
 use Rattle.mk_model.specs.Orders.{standard, IsBelow, lead, tail, ComesBefore}
 
 abbrev pub is_below : List ℕ → List ℤ → List ℤ → Bool
@@ -53,18 +54,6 @@ ascends-true n w (m ∷ moves) h =
     (ascends-true n w moves b)
 
 -- ---- the moves of 3 by 3 independence
-abbrev nine : List (List ℤ)
-nine =
-    (pos 0 ∷ pos 0 ∷ pos 0 ∷ pos 0 ∷ negsuc 0 ∷ pos 1 ∷ pos 0 ∷ pos 1 ∷ negsuc 0 ∷ [])
-    ∷ (pos 0 ∷ negsuc 0 ∷ pos 1 ∷ pos 0 ∷ pos 0 ∷ pos 0 ∷ pos 0 ∷ pos 1 ∷ negsuc 0 ∷ [])
-    ∷ (pos 0 ∷ pos 0 ∷ pos 0 ∷ negsuc 0 ∷ pos 0 ∷ pos 1 ∷ pos 1 ∷ pos 0 ∷ negsuc 0 ∷ [])
-    ∷ (pos 0 ∷ pos 0 ∷ pos 0 ∷ negsuc 0 ∷ pos 1 ∷ pos 0 ∷ pos 1 ∷ negsuc 0 ∷ pos 0 ∷ [])
-    ∷ (negsuc 0 ∷ pos 0 ∷ pos 1 ∷ pos 0 ∷ pos 0 ∷ pos 0 ∷ pos 1 ∷ pos 0 ∷ negsuc 0 ∷ [])
-    ∷ (negsuc 0 ∷ pos 1 ∷ pos 0 ∷ pos 0 ∷ pos 0 ∷ pos 0 ∷ pos 1 ∷ negsuc 0 ∷ pos 0 ∷ [])
-    ∷ (pos 0 ∷ negsuc 0 ∷ pos 1 ∷ pos 0 ∷ pos 1 ∷ negsuc 0 ∷ pos 0 ∷ pos 0 ∷ pos 0 ∷ [])
-    ∷ (negsuc 0 ∷ pos 0 ∷ pos 1 ∷ pos 1 ∷ pos 0 ∷ negsuc 0 ∷ pos 0 ∷ pos 0 ∷ pos 0 ∷ [])
-    ∷ (negsuc 0 ∷ pos 1 ∷ pos 0 ∷ pos 1 ∷ negsuc 0 ∷ pos 0 ∷ pos 0 ∷ pos 0 ∷ pos 0 ∷ []) ∷ []
-
-pub nine_ascend : AllPairs (ComesBefore 9 (ones 9)) nine
+pub nine_ascend : AllPairs (ComesBefore 9 (ones 9)) nine_moves
 unfolding negate positive_part negative_part weight
-nine_ascend = ascends-true 9 (ones 9) nine refl
+nine_ascend = ascends-true 9 (ones 9) nine_moves refl

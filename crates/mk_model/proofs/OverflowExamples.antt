@@ -1,16 +1,16 @@
--- A difference and a step of reduction with an entry out of range.
-use Rattle.std.proofs.Common.{inl, inr, ℕ, zero, suc, ◌<◌, List, [], ◌∷◌, None, Some, ℤ, pos, negsuc, neg_ℤ, ◌-ℤ◌, ◌*ℤ◌, arith, refl}
-use Rattle.mk_model.specs.Vectors.{entry, combine, subtract, scale, positive_part, IsEntry}
+-- A difference, a step of reduction and a step on a tail with an entry out of range.
+use Rattle.std.proofs.Common.{inl, inr, ℕ, zero, suc, ◌<◌, pos, neg_ℤ, ◌-ℤ◌, ◌*ℤ◌, arith, refl}
+use Rattle.mk_model.specs.Vectors.{entry, combine, subtract, negate, scale, positive_part, negative_part, IsEntry}
 use Rattle.mk_model.specs.Orders.{lead}
 use Rattle.mk_model.specs.Reductions.{Divides, Reduct}
 use Rattle.mk_model.specs.Reductions.Reaches.{here}
 use Rattle.mk_model.specs.Saturation.{divides}
-use Rattle.mk_model.specs.CoreStates.{pair_of, stop_at, difference}
-use Rattle.mk_model.specs.Overflows.{IsGenuineOverflow}
+use Rattle.mk_model.specs.CoreStates.{pair_of, difference}
+use Rattle.mk_model.specs.Overflows.{IsGenuineOverflow, IsTailOverflow}
+use Rattle.mk_model.specs.Worked.{far_moves, difference_stop, step_moves, step_from, step_taken, step_stop, like_first, tail_heavy, tail_moves, tail_stop}
 use Rattle.mk_model.proofs.Divisors.{divides_true}
 
-pub in_difference : IsGenuineOverflow ((negsuc 0 ∷ pos 1 ∷ []) ∷ (pos 9223372036854775807 ∷ neg_ℤ (pos 9223372036854775807) ∷ []) ∷ [])
-    (stop_at (pair_of 0 1) None None 0 (pos 9223372036854775807) (pos 1) (negsuc 0))
+pub in_difference : IsGenuineOverflow far_moves difference_stop
 in_difference = inl (
   refl,
   record {
@@ -20,38 +20,55 @@ in_difference = inl (
   },
 )
 
--- the difference, and the move that is taken from it
-abbrev from : List ℤ
-from = pos 5 ∷ pos 9223372036854775803 ∷ neg_ℤ (pos 9223372036854775807) ∷ negsuc 0 ∷ []
-
-abbrev taken : List ℤ
-taken = pos 5 ∷ negsuc 4 ∷ pos 0 ∷ pos 0 ∷ []
-
-abbrev three_moves : List (List ℤ)
-three_moves = (negsuc 4 ∷ pos 4 ∷ pos 0 ∷ pos 1 ∷ []) ∷ (pos 0 ∷ pos 9223372036854775807 ∷ neg_ℤ (pos 9223372036854775807) ∷ pos 0 ∷ []) ∷ taken ∷ []
-
-from_difference : Reduct three_moves (difference three_moves (pair_of 0 1)) from
+from_difference : Reduct step_moves (difference step_moves (pair_of 0 1)) step_from
 unfolding combine subtract
 from_difference = here
 
-lead_divides_once : Divides (scale (pos 1) (lead taken)) (positive_part from)
+lead_divides_once : Divides (scale (pos 1) (lead step_taken)) (positive_part step_from)
 unfolding combine subtract scale positive_part divides
-lead_divides_once = divides_true (scale (pos 1) (lead taken)) (positive_part from) refl
+lead_divides_once = divides_true (scale (pos 1) (lead step_taken)) (positive_part step_from) refl
 
-lesser_column : (c : ℕ) → c < 1 → IsEntry (entry from c -ℤ (pos 1 *ℤ entry taken c))
+lesser_column : (c : ℕ) → c < 1 → IsEntry (entry step_from c -ℤ (pos 1 *ℤ entry step_taken c))
 lesser_column zero l = (record { le = tt }, record { le = tt })
 lesser_column (suc c) l = absurd (omega arith)
 
-pub in_step : IsGenuineOverflow three_moves (stop_at (pair_of 0 1) (Some 2) (Some from) 1 (pos 9223372036854775803) (pos 1) (negsuc 4))
+pub in_step : IsGenuineOverflow step_moves step_stop
 in_step = inr (
   2,
   refl,
   record {
     within = omega arith;
-    from = from;
+    from = step_from;
     operand = refl;
     reduct = from_difference;
     step = record { count = 1; some = omega arith; divides = inl (refl, lead_divides_once) };
     beyond = record { left = refl; right = refl; beyond = inr (record { lt = tt }); lesser = lesser_column };
   },
 )
+
+-- ---- on a tail
+like_divides : Divides (scale (pos 1) (lead like_first)) (negative_part tail_heavy)
+unfolding combine subtract scale positive_part negative_part negate divides
+like_divides = divides_true (scale (pos 1) (lead like_first)) (negative_part tail_heavy) refl
+
+lesser_columns : (c : ℕ) → c < 2 → IsEntry (entry tail_heavy c -ℤ (neg_ℤ (pos 1) *ℤ entry like_first c))
+lesser_columns zero l = (record { le = tt }, record { le = tt })
+lesser_columns (suc zero) l = (record { le = tt }, record { le = tt })
+lesser_columns (suc (suc c)) l = absurd (omega arith)
+
+pub in_tail_step : IsTailOverflow tail_moves 0 tail_stop
+in_tail_step = record {
+  of_list = omega arith;
+  pair = refl;
+  place = 1;
+  by = refl;
+  within = omega arith;
+  from = tail_heavy;
+  operand = refl;
+  reached = here;
+  count = 1;
+  some = omega arith;
+  times = refl;
+  divides = like_divides;
+  beyond = record { left = refl; right = refl; beyond = inl (record { lt = tt }); lesser = lesser_columns };
+}

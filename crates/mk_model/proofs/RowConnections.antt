@@ -1,5 +1,5 @@
 -- The rows, in either sign and without those that are zero, are connected up to all columns.
-use Rattle.std.proofs.Common.{◌≡◌, ◌⊎◌, inl, inr, ℕ, suc, true, List, [], ◌∷◌, length, ℤ, pos, ◌*ℤ◌, Contains, arith, ap, refl, sym, ◌∙◌, subst}
+use Rattle.std.proofs.Common.{◌≡◌, inl, inr, ℕ, suc, true, List, [], ◌∷◌, length, ℤ, pos, ◌*ℤ◌, Contains, arith, ap, refl, sym, ◌∙◌, subst}
 use Rattle.std.proofs.lemmas.Int.{ints}
 use Rattle.std.proofs.lemmas.Bool.{both_ways}
 use Rattle.std.proofs.lemmas.List.Elements.{All-head, All-tail}
@@ -8,16 +8,12 @@ use Rattle.mk_model.specs.Vectors.{entry, zeros, add, subtract, negate, scale, p
 use Rattle.mk_model.specs.Lattices.{lattice_of, combination, HasGrading}
 use Rattle.mk_model.specs.Walks.{Members, Joined}
 use Rattle.mk_model.specs.Walks.Walk.{stay}
-use Rattle.mk_model.specs.Saturation.{every_column, JoinedUpTo, ConnectedUpTo}
+use Rattle.mk_model.specs.Saturation.{every_column, JoinedUpTo, ConnectedUpTo, IsSignedRow}
 use Rattle.mk_model.proofs.Lists.{Contains-here, Contains-there}
 use Rattle.mk_model.proofs.VectorAlgebra.{lengths, columns, same_vectors, entry-scale, add_assoc, negate-subtract, negate-scale, scale-negate, IsPoint-add, IsPoint-positive_part, IsPoint-negative_part}
 use Rattle.mk_model.proofs.LatticeLaws.{AllColumns, length-combination}
 use Rattle.mk_model.proofs.WalkLaws.{walk_append, walk_back, walk_along}
 use Rattle.mk_model.proofs.Translation.{joined_translate}
-
--- a row that is zero, or a move, or the negative of one
-abbrev pub IsSignedRow : List (List ℤ) → List ℤ → Type 0
-IsSignedRow moves row = ((c : ℕ) → entry row c ≡ pos 0) ⊎ (Contains moves row ⊎ Contains moves (negate row))
 
 signed_walk : {n : ℕ} (moves : List (List ℤ)) (row : List ℤ) → IsSignedRow moves row → length row ≡ n → (k : ℤ) (x y : List ℤ) → IsPoint n x → IsPoint n y → subtract x y ≡ scale k row → Joined n (Members moves) x y
 signed_walk {n} moves row (inl z) l k x y q r e = subst (Joined n (Members moves) x) same (stay q)

@@ -1,28 +1,20 @@
 -- A text with its tokens and its table, and texts without a table.
-use Rattle.std.proofs.Common.{◌≡◌, inl, inr, ℕ, List, [], ◌∷◌, ◌++◌, length, get_or, codes, ◌<◌, All, ℤ, pos, negsuc, neg_ℤ, ◌≤ℤ◌, true, arith, ap, refl, sym, subst}
+use Rattle.std.proofs.Common.{◌≡◌, inl, inr, ℕ, List, [], ◌∷◌, length, get_or, codes, ◌<◌, All, ℤ, pos, negsuc, ◌≤ℤ◌, true, arith, ap, refl, sym, subst}
 use Rattle.std.specs.List.{list_all, AllPass}
 use Rattle.std.specs.Char.{is_ascii_digit}
 use Rattle.std.proofs.lemmas.List.Sums.{AllPass-from_list_all}
 use Rattle.std.proofs.lemmas.List.Elements.{All-nil, All-cons, All-head}
+use Rattle.mk_model.specs.Worked.{square_text, wide_limits, square_table}
 use Rattle.mk_model.specs.Tables.{tokens, AreDigits, IsCount, IsNumber, Grid, Limits, ReadsTable}
 
-abbrev text : List ℕ
-text = codes " +2" ++ 9 ∷ codes "2" ++ 13 ∷ 10 ∷ codes "01 -1 0 0"
-
-abbrev limits : Limits
-limits = record { rows = 4096; columns = 512; least = neg_ℤ (pos 9223372036854775807); most = pos 9223372036854775807 }
-
-abbrev grid : Grid
-grid = record { rows = 2; columns = 2; entries = pos 1 ∷ negsuc 0 ∷ pos 0 ∷ pos 0 ∷ [] }
-
 abbrev IsWithin : ℤ → Type 0
-IsWithin z = (limits.least ≤ℤ z) × (z ≤ℤ limits.most)
+IsWithin z = (wide_limits.least ≤ℤ z) × (z ≤ℤ wide_limits.most)
 
-pub split : tokens text ≡ codes "+2" ∷ codes "2" ∷ codes "01" ∷ codes "-1" ∷ codes "0" ∷ codes "0" ∷ []
+pub split : tokens square_text ≡ codes "+2" ∷ codes "2" ∷ codes "01" ∷ codes "-1" ∷ codes "0" ∷ codes "0" ∷ []
 unfolding tokens
 split = refl
 
-digits : (token : List ℕ) → 0 < length token → list_all is_ascii_digit token ≡ true → AreDigits token
+pub digits : (token : List ℕ) → 0 < length token → list_all is_ascii_digit token ≡ true → AreDigits token
 digits token l e = record { some = l; each = AllPass-from_list_all is_ascii_digit token e }
 
 two_plus : IsCount (codes "+2") 2
@@ -40,14 +32,14 @@ minus_one = inr (codes "1", digits (codes "1") (omega arith) refl, refl, refl)
 nought : IsNumber (codes "0") (pos 0)
 nought = inl (0, refl, (codes "0", digits (codes "0") (omega arith) refl, refl, inl refl))
 
-four_within : All IsWithin grid.entries
+four_within : All IsWithin square_table.entries
 four_within =
     All-cons IsWithin (pos 1) (negsuc 0 ∷ pos 0 ∷ pos 0 ∷ []) (record { le = tt }, record { le = tt })
     (All-cons IsWithin (negsuc 0) (pos 0 ∷ pos 0 ∷ []) (record { le = tt }, record { le = tt })
     (All-cons IsWithin (pos 0) (pos 0 ∷ []) (record { le = tt }, record { le = tt })
     (All-cons IsWithin (pos 0) [] (record { le = tt }, record { le = tt }) (All-nil IsWithin))))
 
-pub table : ReadsTable text limits grid
+pub table : ReadsTable square_text wide_limits square_table
 table = record {
   rows_token = codes "+2";
   columns_token = codes "2";

@@ -10,7 +10,7 @@ use Rattle.mk_model.specs.Tables.{AreDigits, IsCount, IsNumber}
 pub first_digit : (b : ℕ) (digits : List ℕ) → AreDigits (b ∷ digits) → is_ascii_digit b ≡ true
 first_digit b digits are = All-head (λ c. is_ascii_digit c ≡ true) b digits are.each
 
-no_sign : (b : ℕ) (digits token : List ℕ) → (is_ascii_digit b ≡ true → ⊥) → AreDigits token → token ≡ b ∷ digits → ⊥
+pub no_sign : (b : ℕ) (digits token : List ℕ) → (is_ascii_digit b ≡ true → ⊥) → AreDigits token → token ≡ b ∷ digits → ⊥
 no_sign b digits token sign are e = sign (first_digit b digits (subst AreDigits e are))
 
 pub IsCount-same : (token : List ℕ) (m n : ℕ) → IsCount token m → IsCount token n → m ≡ n

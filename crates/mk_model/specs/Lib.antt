@@ -15,3 +15,5 @@ pub mod CoreStates
 pub mod Overflows
 pub mod Events
 pub mod Legal
+pub mod Books
+pub mod Worked

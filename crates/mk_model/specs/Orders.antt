@@ -1,6 +1,6 @@
 -- The orders of vectors and of moves. (Sturmfels, chapters 4 and 5: a term order, leading and trailing terms)
-use Rattle.std.specs.Prelude.{◌≡◌, ◌⊎◌, ℕ, zero, suc, List, [], ◌∷◌, ℤ, ◌<ℤ◌}
-use Rattle.mk_model.specs.Vectors.{entry, positive_part, negative_part, weight}
+use Rattle.std.specs.Prelude.{◌≡◌, ◌⊎◌, ℕ, zero, suc, ◌==◌, not, List, [], ◌∷◌, filter, ℤ, ◌<ℤ◌}
+use Rattle.mk_model.specs.Vectors.{entry, negate, positive_part, negative_part, weight}
 
 -- Along a priority list of columns: at the first column of it where they differ, x has the larger entry.
 abbrev pub IsBelow : List ℕ → List ℤ → List ℤ → Type 0
@@ -12,9 +12,18 @@ abbrev pub standard : ℕ → List ℕ
 standard zero = []
 standard (suc n) = n ∷ standard n
 
+-- the list of a column: that column, and then the others from the last to the first
+abbrev pub list_of_column : ℕ → ℕ → List ℕ
+list_of_column n column = column ∷ filter (λ c. not (c == column)) (standard n)
+
 -- the negative part is below the positive part: the first nonzero entry along p is negative
 abbrev pub IsOriented : List ℕ → List ℤ → Type 0
 IsOriented p v = IsBelow p (negative_part v) (positive_part v)
+
+-- the row or its negative, oriented by the list
+pub record IsRowTurned (p : List ℕ) (row move : List ℤ) : Type 0 where
+  pub either : (move ≡ row) ⊎ (move ≡ negate row)
+  pub oriented : IsOriented p move
 
 -- the end of an oriented move that isn't below the other, and the other end
 abbrev pub lead : List ℤ → List ℤ

@@ -1,10 +1,11 @@
 -- Overflows that are genuine: the first column where the result of a subtraction leaves the range of entries.
-use Rattle.std.specs.Prelude.{◌≡◌, ◌⊎◌, ℕ, ◌≤◌, ◌<◌, List, length, None, Some, ℤ, pos, neg_ℤ, ◌-ℤ◌, ◌*ℤ◌, ◌<ℤ◌}
+use Rattle.std.specs.Prelude.{◌≡◌, ◌⊎◌, ℕ, ◌≤◌, ◌<◌, List, length, Contains, None, Some, ℤ, pos, neg_ℤ, ◌-ℤ◌, ◌*ℤ◌, ◌<ℤ◌}
 use Rattle.mk_model.specs.declared.TheConstants.{ENTRY_MAX}
-use Rattle.mk_model.specs.Vectors.{entry, scale, positive_part, negative_part, IsEntry}
+use Rattle.mk_model.specs.Vectors.{entry, scale, positive_part, negative_part, weight, IsEntry}
 use Rattle.mk_model.specs.Orders.{lead}
-use Rattle.mk_model.specs.Reductions.{Divides, Reduct, TailReduct}
-use Rattle.mk_model.specs.CoreStates.{OverflowStop, move_at, difference}
+use Rattle.mk_model.specs.Pairs.{AreDisjoint}
+use Rattle.mk_model.specs.Reductions.{lcm, Divides, Reduct, TailReduct}
+use Rattle.mk_model.specs.CoreStates.{Pair, pair_of, IsPairOf, OverflowStop, move_at, difference}
 
 -- greater in absolute value than an entry may be
 abbrev pub IsBeyond : ℤ → Type 0
@@ -44,13 +45,27 @@ abbrev pub IsGenuineOverflow : List (List ℤ) → OverflowStop → Type 0
 IsGenuineOverflow moves stop =
     ((stop.by ≡ None) × IsDifferenceOverflow moves stop) ⊎ ((place : ℕ) × (stop.by ≡ Some place) × IsStepOverflow moves stop place)
 
--- a step of reduction by the move of a place, on the negative part of a vector that such steps reach from the move of an index
-pub record IsTailOverflow (moves : List (List ℤ)) (index place : ℕ) (operand : List ℤ) (stop : OverflowStop) : Type 0 where
+-- a step of reduction by the move of a place, on the negative part of a vector that such steps reach from the move of an index,
+-- which stands for both places of the stop's pair
+pub record IsTailOverflow (moves : List (List ℤ)) (index : ℕ) (stop : OverflowStop) : Type 0 where
   pub of_list : index < length moves
+  pub pair : stop.pair ≡ pair_of index index
+  pub place : ℕ
+  pub by : stop.by ≡ Some place
   pub within : place < length moves
-  pub reached : TailReduct moves (move_at moves index) operand
+  pub from : List ℤ
+  pub operand : stop.operand ≡ Some from
+  pub reached : TailReduct moves (move_at moves index) from
   pub count : ℕ
   pub some : 1 ≤ count
   pub times : stop.times ≡ neg_ℤ (pos count)
-  pub divides : Divides (scale (pos count) (lead (move_at moves place))) (negative_part operand)
-  pub beyond : IsFirstBeyond operand (move_at moves place) stop
+  pub divides : Divides (scale (pos count) (lead (move_at moves place))) (negative_part from)
+  pub beyond : IsFirstBeyond from (move_at moves place) stop
+
+-- The two leads overlap, and the weight of their least common multiple is that of a move of the list.
+pub record IsPairOfWeight (w : List ℤ) (moves : List (List ℤ)) (pair : Pair) : Type 0 where
+  pub of_list : IsPairOf moves pair
+  pub overlap : ¬ (AreDisjoint (lead (move_at moves pair.first)) (lead (move_at moves pair.second)))
+  pub move : List ℤ
+  pub member : Contains moves move
+  pub same : weight w (lcm (lead (move_at moves pair.first)) (lead (move_at moves pair.second))) ≡ weight w (lead move)

@@ -1,5 +1,5 @@
-//! Plain programs for definitions, each proved to be what its definition says. They don't count the time that they
-//! take: tests hold other programs against them.
+//! Plain programs for definitions, each proved to be what its definition says. They don't count
+//! the time that they take: tests hold other programs against them.
 
 ghost use Rattle.std.specs.Prelude.{◌≡◌, ◌<◌, ◌↔◌, length, All, IsTrue};
 ghost use Rattle.mk_model.specs.Orders.{IsBelow};

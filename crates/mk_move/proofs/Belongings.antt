@@ -14,7 +14,7 @@ use Rattle.mk_move.proofs.Parts.{length-oriented}
 -- a row and its negative have product 0 together
 product_of_oriented : (row w : List ℤ) (p : List ℕ) (entries : List ℤ) → weight w row ≡ pos 0 → IsRowOriented row p entries → weight w entries ≡ pos 0
 product_of_oriented row w p entries z h =
-    elim h.either [
+    elim h.turned.either [
       | inl e ↦ ap (weight w) e ∙ z
       | inr e ↦ ap (weight w) e ∙ weight-negate w row ∙ ap neg_ℤ z
     ]
@@ -24,7 +24,7 @@ pub BelongsTo-of_row : (row w : List ℤ) (p : List ℕ) (m : Weighed) → lengt
 BelongsTo-of_row row w p m same (z, h) = record {
   columns = length-oriented row p m.entries h.entries ∙ same;
   graded = record { product = product_of_oriented row w p m.entries z h.entries; weight = h.weight };
-  oriented = h.entries.oriented;
+  oriented = h.entries.turned.oriented;
 }
 
 -- the lead of a move that belongs to a list and a grading isn't zero

@@ -4,7 +4,7 @@ use Rattle.std.specs.Int.{int_max, int_min}
 use Rattle.std.proofs.lemmas.Int.{ints, clamps}
 use Rattle.std.proofs.lemmas.Bool.{cases_lt}
 use Rattle.std.proofs.lemmas.List.{get_or_past}
-use Rattle.std.proofs.Math.Nat.{mul-le-mul_left, le-div_iff_mul-le}
+use Rattle.std.proofs.Math.Nat.{mul-le-mul_left, mul-le-mul_right, le-div_iff_mul-le}
 use borrow.Author.Count.{below_more}
 use borrow.Author.Differences.{up}
 use Rattle.mk_model.specs.declared.TheConstants.{ENTRY_MAX}
@@ -225,3 +225,30 @@ times_whole lead row side n times l h = record {
     at c (inl k) = simp (scaled_entry, part_entry) (ordered _ _ (h.below c k))
     at c (inr k) =
         subst (λ (z : ℤ). z ≤ℤ entry (part_of side row) c) (sym (get_or_past (scale (pos h.count) (positive_part lead)) c (pos 0) (omega (arith, lengths)))) (part_of_nonnegative side row c)
+
+-- ---- on one side alone
+no_more : (i x : ℕ) → 1 ≤ i → i * x ≤ 0 → x ≡ 0
+no_more i zero h l = refl
+no_more i (suc x) h l = absurd (omega (arith, mul-le-mul_right i (one_more x)))
+  where
+    one_more : (x : ℕ) → 1 ≤ suc x
+    one_more x = omega arith
+
+-- a lead that has a greatest number of times on one side has none on the other
+pub not_on_both : (lead row : List ℤ) (one other : Side) (times : ℤ) (q : ℕ) → ((a : ℤ) → (entry_on one a ≡ pos 0) ⊎ (entry_on other a ≡ pos 0)) →
+    IsMostTimes (positive_part lead) (part_of one row) times → 1 ≤ q → Divides (scale (pos q) (positive_part lead)) (part_of other row) → ⊥
+not_on_both lead row one other times q apart h some d = none_more (h.greatest (suc h.count) (record { entries = zero_divides }))
+  where
+    none_more : suc h.count ≤ h.count → ⊥
+    none_more l = omega arith
+
+    zero_lead : (c : ℕ) → up (entry lead c) ≡ 0
+    zero_lead c = elim (apart (entry row c)) [
+      | inl e ↦ no_more h.count (up (entry lead c)) h.some (rw e at (times_at h.count lead row one c h.divides))
+      | inr e ↦ no_more q (up (entry lead c)) some (rw e at (times_at q lead row other c d))
+    ]
+
+    zero_divides : (c : ℕ) → entry (scale (pos (suc h.count)) (positive_part lead)) c ≤ℤ entry (part_of one row) c
+    zero_divides c =
+        let zero : suc h.count * up (entry lead c) ≡ 0 = rw (zero_lead c) (omega arith) in
+        subst (λ (z : ℤ). z ≤ℤ entry (part_of one row) c) (sym (scaled_entry (suc h.count) lead c ∙ ap pos zero)) (part_of_nonnegative one row c)

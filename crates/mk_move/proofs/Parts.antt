@@ -104,25 +104,29 @@ has_first p row first e h z = h (e ∙ ap (first_along p) z ∙ first_of_zero p 
 
 pub row_as_it_is : (p : List ℕ) (row entries : List ℤ) (first : ℤ) → first ≡ first_along p row → first <ℤ pos 0 → entries ≡ row → IsRowOriented row p entries
 row_as_it_is p row entries first e h same = record {
-  either = inl same;
-  oriented = subst (IsOriented p) (sym same) (oriented_by_negative p row (subst (λ (z : ℤ). z <ℤ pos 0) e h));
+  turned = record {
+    either = inl same;
+    oriented = subst (IsOriented p) (sym same) (oriented_by_negative p row (subst (λ (z : ℤ). z <ℤ pos 0) e h));
+  };
   not_zero = has_first p row first e (λ z. omega (arith, ints, h));
 }
 
 pub row_turned : (p : List ℕ) (row entries : List ℤ) (first : ℤ) → first ≡ first_along p row → pos 0 <ℤ first → entries ≡ negate row → IsRowOriented row p entries
 row_turned p row entries first e h same = record {
-  either = inr same;
-  oriented = subst (IsOriented p) (sym same) (oriented_by_positive p row (subst (λ (z : ℤ). pos 0 <ℤ z) e h));
+  turned = record {
+    either = inr same;
+    oriented = subst (IsOriented p) (sym same) (oriented_by_positive p row (subst (λ (z : ℤ). pos 0 <ℤ z) e h));
+  };
   not_zero = has_first p row first e (λ z. omega (arith, ints, h));
 }
 
 pub length-oriented : (row : List ℤ) (p : List ℕ) (entries : List ℤ) → IsRowOriented row p entries → length entries ≡ length row
 length-oriented row p entries h =
-    elim h.either [ inl e ↦ ap length e | inr e ↦ ap length e ∙ length-negate row ]
+    elim h.turned.either [ inl e ↦ ap length e | inr e ↦ ap length e ∙ length-negate row ]
 
 pub All-oriented : (row : List ℤ) (p : List ℕ) (entries : List ℤ) → IsRowOriented row p entries → All IsEntry row → All IsEntry entries
 All-oriented row p entries h k =
-    elim h.either [
+    elim h.turned.either [
       | inl e ↦ subst (All IsEntry) (sym e) k
       | inr e ↦ subst (All IsEntry) (sym e) (All-negate row k)
     ]
@@ -130,6 +134,6 @@ All-oriented row p entries h k =
 pub IsKept-oriented : (row : List ℤ) (p : List ℕ) (m : Weighed) → length row ≤ 512 → IsRowOriented row p m.entries → All IsEntry row → IsMoveKept m
 IsKept-oriented row p m few h k = record {
   columns = omega (arith, length-oriented row p m.entries h);
-  not_zero = λ z. IsOriented-not_zero p m.entries (λ c. ap (λ x. entry x c) z ∙ entry-zeros (length m.entries) c) h.oriented;
+  not_zero = λ z. IsOriented-not_zero p m.entries (λ c. ap (λ x. entry x c) z ∙ entry-zeros (length m.entries) c) h.turned.oriented;
   entries = All-oriented row p m.entries h k;
 }

@@ -3,10 +3,11 @@ use Rattle.std.proofs.Common.{◌≡◌, ℕ, zero, suc, ◌+◌, ◌*◌, ◌<�
 use Rattle.std.proofs.Math.Nat.{mul-le-mul}
 use mir.Syntax.{w64, w128}
 use mir.Val.{SFits, to_z, of_z}
-use Rattle.std.proofs.lemmas.List.Elements.{All-get_or}
+use Rattle.std.proofs.lemmas.List.Elements.{All-get_or, All-weaker}
 use Rattle.std.proofs.lemmas.List.{take_all}
 use Rattle.std.proofs.lemmas.Int.{ints, unsigned_abs-mul, to_z-of_z, fits_signed_from_abs}
 use Rattle.mk_model.specs.Vectors.{weight, IsEntry}
+use Rattle.mk_model.specs.ChosenGradings.{IsSmallEntry}
 use Rattle.mk_move.specs.Gradings.{IsWeight, AreWeights}
 
 -- the product of one column more
@@ -32,24 +33,37 @@ abs_from_bounds (negsuc m) n h l = omega (arith, ints)
 abbrev pub most_of_column : ℕ
 most_of_column = 2147483647 * 9223372036854775807
 
-pub product_bounds : (k a : ℤ) → IsWeight k → IsEntry a → (neg_ℤ (pos most_of_column) ≤ℤ (k *ℤ a)) × ((k *ℤ a) ≤ℤ pos most_of_column)
-product_bounds k a h l =
-    let of_k : unsigned_abs k ≤ 2147483647 = abs_from_bounds k 2147483647 (omega (arith, ints, h.0)) h.1 in
+-- a weight is a small entry
+pub IsWeight-small : (k : ℤ) → IsWeight k → IsSmallEntry k
+IsWeight-small k h = (omega (arith, ints, h.0), h.1)
+
+pub weights_small : (w : List ℤ) → All IsWeight w → All IsSmallEntry w
+weights_small w h = All-weaker IsWeight IsSmallEntry IsWeight-small w h
+
+small_bounds : (k a : ℤ) → IsSmallEntry k → IsEntry a → (neg_ℤ (pos most_of_column) ≤ℤ (k *ℤ a)) × ((k *ℤ a) ≤ℤ pos most_of_column)
+small_bounds k a h l =
+    let of_k : unsigned_abs k ≤ 2147483647 = abs_from_bounds k 2147483647 h.0 h.1 in
     let of_a : unsigned_abs a ≤ 9223372036854775807 = abs_from_bounds a 9223372036854775807 l.0 l.1 in
     abs_bounds (k *ℤ a) most_of_column (omega (arith, unsigned_abs-mul k a, mul-le-mul of_k of_a))
 
+pub product_bounds : (k a : ℤ) → IsWeight k → IsEntry a → (neg_ℤ (pos most_of_column) ≤ℤ (k *ℤ a)) × ((k *ℤ a) ≤ℤ pos most_of_column)
+product_bounds k a h l = small_bounds k a (IsWeight-small k h) l
+
+IsSmallEntry-fits : (k : ℤ) → IsSmallEntry k → unsigned_abs k < 2 ^ 63
+IsSmallEntry-fits k h = omega (arith, abs_from_bounds k 2147483647 h.0 h.1)
+
 pub IsWeight-fits : (k : ℤ) → IsWeight k → unsigned_abs k < 2 ^ 63
-IsWeight-fits k h = omega (arith, abs_from_bounds k 2147483647 (omega (arith, ints, h.0)) h.1)
+IsWeight-fits k h = IsSmallEntry-fits k (IsWeight-small k h)
 
 pub IsEntry-fits : (a : ℤ) → IsEntry a → unsigned_abs a < 2 ^ 63
 IsEntry-fits a h = omega (arith, abs_from_bounds a 9223372036854775807 h.0 h.1)
 
--- what the code's product of a weight and an entry gives
-pub product_is : (k a r s : ℤ) → IsWeight k → IsEntry a → r ≡ to_z w64 (of_z w64 k) → s ≡ to_z w64 (of_z w64 a) → to_z w128 (of_z w128 (to_z w128 (of_z w128 r) *ℤ to_z w128 (of_z w128 s))) ≡ k *ℤ a
+-- what the code's product of a small entry and an entry gives
+product_is : (k a r s : ℤ) → IsSmallEntry k → IsEntry a → r ≡ to_z w64 (of_z w64 k) → s ≡ to_z w64 (of_z w64 a) → to_z w128 (of_z w128 (to_z w128 (of_z w128 r) *ℤ to_z w128 (of_z w128 s))) ≡ k *ℤ a
 product_is k a r s h l p q =
-    let fits_k : unsigned_abs k < 2 ^ 63 = IsWeight-fits k h in
+    let fits_k : unsigned_abs k < 2 ^ 63 = IsSmallEntry-fits k h in
     let fits_a : unsigned_abs a < 2 ^ 63 = IsEntry-fits a l in
-    let bounds = product_bounds k a h l in
+    let bounds = small_bounds k a h l in
     let fits_product : unsigned_abs (k *ℤ a) < 2 ^ 127 = omega (arith, abs_from_bounds (k *ℤ a) most_of_column bounds.0 bounds.1) in
     let is_k : to_z w128 (of_z w128 r) ≡ k =
     ap (λ z. to_z w128 (of_z w128 z)) (p ∙ to_z-of_z w64 k (fits_signed_from_abs w64 k fits_k)) ∙ to_z-of_z w128 k (fits_signed_from_abs w128 k (omega arith)) in
@@ -76,16 +90,16 @@ pub record IsTurn (w x : List ℤ) (i : ℕ) (total product : ℤ) : Type 0 wher
   pub next : IsTotal w x (i + 1) (to_z w128 (of_z w128 (total +ℤ product)))
 
 -- one turn of the loop over the columns
-pub turn : (w x : List ℤ) (i : ℕ) (total r s : ℤ) → AreWeights w → All IsEntry x → length x ≡ length w → i < length x → IsTotal w x i total → r ≡ to_z w64 (of_z w64 (get_or w i (pos 0))) → s ≡ to_z w64 (of_z w64 (get_or x i (pos 0))) → IsTurn w x i total (to_z w128 (of_z w128 (to_z w128 (of_z w128 r) *ℤ to_z w128 (of_z w128 s))))
-turn w x i total r s weights entries same lt so_far p q =
+pub turn_small : (w x : List ℤ) (i : ℕ) (total r s : ℤ) → length w ≤ 512 → All IsSmallEntry w → All IsEntry x → length x ≡ length w → i < length x → IsTotal w x i total → r ≡ to_z w64 (of_z w64 (get_or w i (pos 0))) → s ≡ to_z w64 (of_z w64 (get_or x i (pos 0))) → IsTurn w x i total (to_z w128 (of_z w128 (to_z w128 (of_z w128 r) *ℤ to_z w128 (of_z w128 s))))
+turn_small w x i total r s few small entries same lt so_far p q =
     let k = get_or w i (pos 0) in
     let a = get_or x i (pos 0) in
     let in_w : i < length w = omega arith in
-    let weight_ok : IsWeight k = All-get_or IsWeight w i (pos 0) in_w weights.each in
+    let small_ok : IsSmallEntry k = All-get_or IsSmallEntry w i (pos 0) in_w small in
     let entry_ok : IsEntry a = All-get_or IsEntry x i (pos 0) lt entries in
-    let bounds = product_bounds k a weight_ok entry_ok in
+    let bounds = small_bounds k a small_ok entry_ok in
     let fits : SFits w128 (total +ℤ (k *ℤ a)) =
-    sum_fits total (k *ℤ a) i (omega (arith, weights.columns)) so_far.least so_far.most bounds.0 bounds.1 in
+    sum_fits total (k *ℤ a) i (omega arith) so_far.least so_far.most bounds.0 bounds.1 in
     let same_value : to_z w128 (of_z w128 (total +ℤ (k *ℤ a))) ≡ total +ℤ (k *ℤ a) = to_z-of_z w128 (total +ℤ (k *ℤ a)) fits in
     let least_now : neg_ℤ (pos ((i + 1) * most_of_column)) ≤ℤ (total +ℤ (k *ℤ a)) = omega (arith, ints, so_far.least, bounds.0) in
     let most_now : (total +ℤ (k *ℤ a)) ≤ℤ pos ((i + 1) * most_of_column) = omega (arith, ints, so_far.most, bounds.1) in
@@ -97,7 +111,12 @@ turn w x i total r s weights entries same lt so_far p q =
         most = subst (λ (t : ℤ). t ≤ℤ pos ((i + 1) * most_of_column)) (sym same_value) most_now;
       };
     } in
-    subst (IsTurn w x i total) (sym (product_is k a r s weight_ok entry_ok p q)) plain
+    subst (IsTurn w x i total) (sym (product_is k a r s small_ok entry_ok p q)) plain
+
+-- the same with the weights of a grading
+pub turn : (w x : List ℤ) (i : ℕ) (total r s : ℤ) → AreWeights w → All IsEntry x → length x ≡ length w → i < length x → IsTotal w x i total → r ≡ to_z w64 (of_z w64 (get_or w i (pos 0))) → s ≡ to_z w64 (of_z w64 (get_or x i (pos 0))) → IsTurn w x i total (to_z w128 (of_z w128 (to_z w128 (of_z w128 r) *ℤ to_z w128 (of_z w128 s))))
+turn w x i total r s weights entries same lt so_far p q =
+    turn_small w x i total r s weights.columns (weights_small w weights.each) entries same lt so_far p q
 
 pub no_total : (w x : List ℤ) → IsTotal w x 0 (pos 0)
 unfolding weight

@@ -1,11 +1,12 @@
 -- What a grading keeps, and why one is refused.
-use Rattle.std.specs.Prelude.{◌≡◌, ℕ, ◌≤◌, List, length, take, All, slice_get, Some, ℤ, pos, ◌≤ℤ◌}
+use Rattle.std.specs.Prelude.{◌≡◌, ℕ, ◌≤◌, List, length, take, All, slice_get, Some, ℤ}
+use Rattle.mk_model.specs.ChosenGradings.{IsColumnWeight}
 use Rattle.mk_move.specs.declared.grading.GradingFault.{GradingFault}
 use Rattle.mk_move.specs.declared.grading.GradingFault.TheVariants.{Memory, NotInRange}
 
 -- what a weight of a column may be
 abbrev pub IsWeight : ℤ → Type 0
-IsWeight k = (pos 1 ≤ℤ k) × (k ≤ℤ pos 2147483647)
+IsWeight k = IsColumnWeight k
 
 -- a weight for each of at most 512 columns
 pub record AreWeights (weights : List ℤ) : Type 0 where

@@ -2,8 +2,8 @@
 use Rattle.std.specs.Prelude.{◌≡◌, ◌≢◌, ◌⊎◌, ◌≤◌, ℕ, List, length, All, Option, Some, None, Result, Ok, Err, ℤ, pos, ◌<ℤ◌}
 use Rattle.std.specs.Prelude.{[], ◌∷◌, if◌then◌else◌}
 use Rattle.std.specs.Ordering.{int_eq}
-use Rattle.mk_model.specs.Vectors.{entry, zeros, negate, weight, positive_part, IsEntry}
-use Rattle.mk_model.specs.Orders.{IsOriented, IsBelow, standard, lead, tail}
+use Rattle.mk_model.specs.Vectors.{entry, zeros, weight, positive_part, IsEntry}
+use Rattle.mk_model.specs.Orders.{IsRowTurned, IsBelow, standard, lead, tail}
 use Rattle.mk_move.specs.declared.moves.MoveFault.{MoveFault}
 use Rattle.mk_move.specs.declared.moves.MoveFault.TheVariants.{Memory, NotGraded}
 
@@ -18,10 +18,9 @@ pub record IsMoveKept (m : Weighed) : Type 0 where
   pub not_zero : m.entries ≢ zeros (length m.entries)
   pub entries : All IsEntry m.entries
 
--- the row or its negative, oriented by the list
+-- a row that isn't zero, or its negative, oriented by the list
 pub record IsRowOriented (row : List ℤ) (p : List ℕ) (entries : List ℤ) : Type 0 where
-  pub either : (entries ≡ row) ⊎ (entries ≡ negate row)
-  pub oriented : IsOriented p entries
+  pub turned : IsRowTurned p row entries
   pub not_zero : row ≢ zeros (length row)
 
 -- the row or its negative, oriented by the list, with the weight that the grading gives

@@ -2,7 +2,7 @@
 use Rattle.std.specs.Prelude.{◌≡◌, ℕ, ◌<◌, List, length, All, Option, Some, None, Result, Ok, Err, ℤ, ◌-ℤ◌, ◌*ℤ◌}
 use Rattle.mk_model.specs.Vectors.{entry, zeros, scale, subtract, IsEntry}
 use Rattle.mk_model.specs.Overflows.{IsBeyond}
-use Rattle.mk_move.specs.Moves.{Weighed, IsGraded}
+use Rattle.mk_move.specs.Moves.{Weighed, IsGraded, IsMoveKept}
 use Rattle.mk_move.specs.declared.steps.OverflowAt.{OverflowAt}
 use Rattle.mk_move.specs.declared.steps.StepFault.{StepFault}
 use Rattle.mk_move.specs.declared.steps.StepFault.TheVariants.{Memory, Overflow}
@@ -20,10 +20,11 @@ pub record IsOverflow (x y : List ℤ) (factor : ℤ) (at : OverflowAt) : Type 0
 abbrev pub minus_times : List ℤ → ℤ → List ℤ → List ℤ
 minus_times x times y = subtract x (scale times y)
 
--- the difference as a move of the grading
+-- the difference as a move of the grading: not zero, and with its entries in range
 pub record IsDifference (x y w : List ℤ) (times : ℤ) (m : Weighed) : Type 0 where
   pub entries : m.entries ≡ minus_times x times y
   pub graded : IsGraded w m
+  pub kept : IsMoveKept m
 
 -- why there is no difference: no cause is given for want of memory
 abbrev pub IsStepFault : List ℤ → List ℤ → ℤ → StepFault → Type 0

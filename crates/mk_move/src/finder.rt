@@ -23,8 +23,8 @@ pub trait Finder {
         ensures ok { OnOk result (leads self.new ≡ leads self.old ++ positive_part m.now.entries ∷ []) }
         ensures err { OnErr result (leads self.new ≡ leads self.old) };
 
-    /// A place whose lead divides the part of `r` on that side, and none exactly where no lead does. All leads have as
-    /// many columns as `r`.
+    /// A place whose lead divides the part of `r` on that side, and none exactly where no lead does. Where several do, it
+    /// is free which one. All leads have as many columns as `r`.
     fn find(&self, r: &Move, side: Side) -> Option<u32>
         requires { All (λ lead. length lead ≡ length r.now.entries) (leads self.now) }
         ensures found { IfSome result (DividesAt (leads self.now) (part_of side r.now.entries)) }

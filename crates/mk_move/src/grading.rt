@@ -1,5 +1,6 @@
 ghost use Rattle.std.specs.Prelude.{◌≡◌, ◌≤◌, ◌<◌, length, IfOk, IfErr, All};
 ghost use Rattle.mk_model.specs.Vectors.{entry, weight, positive_part, IsEntry};
+ghost use Rattle.mk_model.specs.ChosenGradings.{IsSmallEntry};
 ghost use Rattle.mk_move.specs.Gradings.{IsWeight, AreWeights, IsGradingFault};
 
 use mk_model::{Entry, NoMemory};
@@ -112,10 +113,11 @@ impl Grading {
     }
 }
 
-/// The product with a row of as many columns.
-fn product_of(weights: &[i64], row: &[Entry]) -> i128
+/// The product of at most 512 numbers, from -2147483647 to 2147483647, and a row of as many columns.
+pub fn product_of(weights: &[i64], row: &[Entry]) -> i128
     requires columns { length row.now ≡ length weights.now }
-    requires weights { AreWeights weights.now }
+    requires few { length weights.now ≤ 512 }
+    requires small { All IsSmallEntry weights.now }
     requires entries { All IsEntry row.now }
     ensures { result ≡ weight weights.now row.now }
 {

@@ -19,7 +19,7 @@ mod steps;
 pub use basis::{Basis, PushFault};
 pub use chain::chain_divides;
 pub use finder::Finder;
-pub use grading::{Grading, GradingFault};
+pub use grading::{Grading, GradingFault, product_of};
 pub use leads::{coprime_leads, lead_divides, times_dividing};
 pub use list::MoveList;
 pub use moves::{Move, MoveFault};

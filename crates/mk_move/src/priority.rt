@@ -1,6 +1,6 @@
-ghost use Rattle.std.specs.Prelude.{◌≡◌, ◌<◌, ◌∷◌, length, IfOk, slice_get};
-ghost use Rattle.mk_model.specs.Orders.{standard};
-ghost use Rattle.mk_move.specs.Priorities.{IsPriority, others};
+ghost use Rattle.std.specs.Prelude.{◌≡◌, ◌<◌, length, IfOk, slice_get};
+ghost use Rattle.mk_model.specs.Orders.{standard, list_of_column};
+ghost use Rattle.mk_move.specs.Priorities.{IsPriority};
 
 use mk_model::NoMemory;
 use std::alloc::Global;
@@ -40,7 +40,7 @@ impl Priority {
     /// The list that names one column first, and then the others from the last to the first.
     pub fn first(alloc: Global, columns: u32, column: u32) -> Result<Priority, NoMemory>
         requires { column < columns }
-        ensures { IfOk result (λ list. list ≡ column ∷ others column columns) }
+        ensures { IfOk result (λ list. list ≡ list_of_column columns column) }
     {
         let mut list = Vec::new(alloc);
         list.push(column)?;

@@ -1,13 +1,13 @@
-ghost use Rattle.std.specs.Prelude.{◌≡◌, ◌≤◌, ◌↔◌, IsTrue, pos, length, All, MatchResult, MatchOption, ◌-ℤ◌, ◌*ℤ◌};
+ghost use Rattle.std.specs.Prelude.{◌≡◌, ◌≤◌, ◌↔◌, IsTrue, pos, length, All, OnOk, IfErr, MatchResult, MatchOption, ◌-ℤ◌, ◌*ℤ◌};
 ghost use Rattle.mk_model.specs.Vectors.{IsEntry, weight, zeros};
 ghost use Rattle.mk_model.specs.Overflows.{IsBeyond};
-ghost use Rattle.mk_move.specs.Steps.{TakesOff, IsStepFault, GivesEntries, GivesEntry};
+ghost use Rattle.mk_move.specs.Steps.{TakesOff, IsOverflow, IsStepFault, GivesEntries, GivesEntry};
 
 use crate::grading::Grading;
 use crate::moves::{Entries, Move};
 use mk_model::{ENTRY_MAX, Entry};
 use smallvec::SmallVec;
-use std::alloc::{AllocError, AllocFailed, Global};
+use std::alloc::{AllocError, Global};
 
 /// A column where `left - times * right` leaves the range of entries, from -9223372036854775807 to 9223372036854775807.
 #[derive(Clone, Copy, Debug, PartialEq, Eq)]
@@ -32,17 +32,6 @@ impl From<AllocError> for StepFault {
     ghost from_gives = { λ _ e. e ≡ Memory };
 
     fn from(_e: AllocError) -> StepFault {
-        StepFault::Memory
-    }
-}
-
-impl<T: Drop> From<AllocFailed<T>> for StepFault {
-    ghost use Rattle.std.specs.Prelude.{◌≡◌};
-    ghost use Rattle.mk_move.specs.declared.steps.StepFault.TheVariants.{Memory};
-
-    ghost from_gives = { λ _ e. e ≡ Memory };
-
-    fn from(_e: AllocFailed<T>) -> StepFault {
         StepFault::Memory
     }
 }
@@ -85,19 +74,36 @@ fn entries_less(
     requires right { All IsEntry right.now }
     ensures { MatchResult result (λ entries. GivesEntries left.now right.now times entries.items) (IsStepFault left.now right.now times) }
 {
-    let mut entries = SmallVec::with_capacity(alloc, left.len())?;
-    for (column, entry) in left.iter().enumerate() {
-        let Some(value) = entry_less(*entry, times, right[column]) else {
-            return Err(StepFault::Overflow(OverflowAt {
+    let mut entries = SmallVec::from_slice(alloc, left)?;
+    match take_off(entries.as_mut_slice(), times, right) {
+        Ok(()) => Ok(entries),
+        Err(at) => Err(StepFault::Overflow(at)),
+    }
+}
+
+/// Takes so many times the other off a row of as many columns, or names the first column that leaves the range.
+fn take_off(row: &mut [Entry], times: Entry, right: &[Entry]) -> Result<(), OverflowAt>
+    requires columns { length row.old ≡ length right.now }
+    requires few { length row.old ≤ 512 }
+    requires left { All IsEntry row.old }
+    requires times { IsEntry times }
+    requires right { All IsEntry right.now }
+    ensures taken { OnOk result (GivesEntries row.old right.now times row.new) }
+    ensures refused { IfErr result (IsOverflow row.old right.now times) }
+{
+    for column in 0..row.len() {
+        let left = row[column];
+        let Some(value) = entry_less(left, times, right[column]) else {
+            return Err(OverflowAt {
                 column: column as u32,
-                left: i128::from(*entry),
+                left: i128::from(left),
                 times: i128::from(times),
                 right: i128::from(right[column]),
-            }));
+            });
         };
-        entries.push(value)?;
+        row[column] = value;
     }
-    Ok(entries)
+    Ok(())
 }
 
 /// The entry `left - times * right`, and none where it leaves the range.

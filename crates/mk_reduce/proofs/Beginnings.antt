@@ -10,7 +10,7 @@ use Rattle.mk_model.specs.Reductions.{Reduct}
 use Rattle.mk_model.specs.Reductions.Reaches.{here}
 use Rattle.mk_model.specs.Overflows.{IsFirstBeyond}
 use Rattle.mk_model.proofs.VectorAlgebra.{scale-one}
-use Rattle.mk_move.specs.Moves.{Weighed}
+use Rattle.mk_move.specs.Moves.{Weighed, IsMoveKept}
 use Rattle.mk_move.specs.MoveLists.{BasisView, vectors_of}
 use Rattle.mk_move.specs.Steps.{minus_times, TakesOff, IsStepFault, IsOverflow}
 use Rattle.mk_move.specs.declared.steps.OverflowAt.{OverflowAt}
@@ -37,9 +37,9 @@ rest_is x y w times None l h = sym (h ∙ ap zeros l)
 rest_is x y w times (Some m) l h = h.entries
 
 pub begun : (basis : BasisView) (i j : ℕ) (a b : Weighed) (rest : Option Weighed) → i < j → slice_get basis.moves i ≡ Some a → slice_get basis.moves j ≡ Some b →
-    rest_of (length basis.grading) rest ≡ minus_times b.entries (pos 1) a.entries → IfSome rest (IsRest basis.grading) →
+    rest_of (length basis.grading) rest ≡ minus_times b.entries (pos 1) a.entries → IfSome rest (IsRest basis.grading) → IfSome rest IsMoveKept →
     WorkOf (record { pair = pair_of i j; front = 0; remainder = rest; trace = [] }) basis
-begun basis i j a b rest l h k e graded =
+begun basis i j a b rest l h k e graded kept =
     let at : rest_of (length basis.grading) rest ≡ difference (vectors_of basis.moves) (pair_of i j) = e ∙ difference_at basis.moves i j a b h k in
     record {
       pair = record { ordered = l; within = omega (arith, slice_get_within basis.moves j b k, length-vectors_of basis.moves) };
@@ -47,12 +47,17 @@ begun basis i j a b rest l h k e graded =
       steps = at;
       reduct = subst (Reduct (vectors_of basis.moves) (difference (vectors_of basis.moves) (pair_of i j))) (sym at) here;
       rest = graded;
+      kept = kept;
       places = inl (All-nil (λ (step : Step). step.place < 0));
     }
 
 pub rest_graded : (x y w : List ℤ) (times : ℤ) (rest : Option Weighed) → length (minus_times x times y) ≡ length w → TakesOff x times y w (Ok rest) → IfSome rest (IsRest w)
 rest_graded x y w times None l h = tt
 rest_graded x y w times (Some m) l h = record { columns = ap length h.entries ∙ l; graded = h.graded }
+
+pub rest_kept : (x y w : List ℤ) (times : ℤ) (rest : Option Weighed) → TakesOff x times y w (Ok rest) → IfSome rest IsMoveKept
+rest_kept x y w times None h = tt
+rest_kept x y w times (Some m) h = h.kept
 
 -- the overflow of a difference has the numbers of a stop
 pub first_beyond : (x y : List ℤ) (factor : ℤ) (at : OverflowAt) (pair : Pair) (operand : Option (List ℤ)) (by : Option ℕ) → IsOverflow x y factor at → IsFirstBeyond x y (overflow_of pair operand by at)

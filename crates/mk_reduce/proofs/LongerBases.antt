@@ -17,6 +17,7 @@ module _ (moves more : List (List ℤ)) where
   IsStep-append r step h = record {
     within = omega (arith, h.within, length-append moves more);
     divides = subst (λ v. IsTimesDividing v r step.times) (sym (move_at-append moves more step.place h.within)) h.divides;
+    greatest = λ times d. h.greatest times (subst (λ v. IsTimesDividing v r times) (move_at-append moves more step.place h.within) d);
   }
 
   LeadsTo-append : (r : List ℤ) (trace : List Step) (last : List ℤ) → LeadsTo moves r trace last → LeadsTo (moves ++ more) r trace last
@@ -39,6 +40,7 @@ WorkOf-append work basis longer more e f h = record {
       (subst (λ w. Reduct (old ++ behind) (difference old work.pair) (rest_of (length w) work.remainder)) (sym f) (Reduct-append old behind (difference old work.pair) (rest_of (length basis.grading) work.remainder) h.reduct))
       );
   rest = subst (λ w. IfSome work.remainder (IsRest w)) (sym f) h.rest;
+  kept = h.kept;
   places = h.places;
 }
   where

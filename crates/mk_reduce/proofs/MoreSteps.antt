@@ -16,7 +16,7 @@ use Rattle.mk_move.specs.Steps.{minus_times, TakesOff, IsStepFault}
 use Rattle.mk_move.specs.declared.steps.StepFault.{StepFault}
 use Rattle.mk_reduce.specs.declared.step.Step.{Step}
 use Rattle.mk_reduce.specs.Works.{TheWork, WorkOf, rest_of, IsReductionStep, after_step, LeadsTo, IsStepMore, IsRest, IsLeftAfter}
-use Rattle.mk_reduce.proofs.Beginnings.{length-vectors_of, rest_is, rest_graded}
+use Rattle.mk_reduce.proofs.Beginnings.{length-vectors_of, rest_is, rest_graded, rest_kept}
 
 leads_more : (moves : List (List ℤ)) (r : List ℤ) (trace : List Step) (last next : List ℤ) (step : Step) → LeadsTo moves r trace last → IsReductionStep moves last step → next ≡ after_step moves last step → LeadsTo moves r (trace ++ step ∷ []) next
 leads_more moves r [] last next step e h f = (subst (λ x. IsReductionStep moves x step) e h, f ∙ ap (λ x. after_step moves x step) e)
@@ -66,6 +66,7 @@ module _ (basis : BasisView) (work : TheWork) (h : WorkOf work basis) where
     steps = h.steps;
     reduct = h.reduct;
     rest = h.rest;
+    kept = h.kept;
     places = inl (subst (λ (n : ℕ). All (λ (step : Step). step.place < n) work.trace) (length-vectors_of basis.moves) (places_within (vectors_of basis.moves) (difference (vectors_of basis.moves) work.pair) work.trace (rest_of (length basis.grading) work.remainder) h.steps));
   }
 
@@ -87,6 +88,7 @@ module _ (basis : BasisView) (work : TheWork) (h : WorkOf work basis) where
     steps = leads_more (vectors_of basis.moves) first work.trace last (rest_of n d.left) d.step steps taken leaves;
     reduct = reaches_append h.reduct (go (reduction_of (vectors_of basis.moves) last (rest_of n d.left) d.step taken leaves) here);
     rest = d.leaves.graded;
+    kept = d.leaves.kept;
     places = inl (All-push (λ (step : Step). step.place < work.front) work.trace d.step (places_below (omega (arith, within))) within);
   })
     where
@@ -119,5 +121,6 @@ left_or_not basis from step v (Ok left) r d e l t = record {
   taken = d;
   entries = rest_is from.entries v basis.grading step.times left r.columns t ∙ ap (minus_times from.entries step.times) (sym e);
   graded = rest_graded from.entries v basis.grading step.times left (omega (arith, lengths, l, r.columns)) t;
+  kept = rest_kept from.entries v basis.grading step.times left t;
 }
 left_or_not basis from step v (Err fault) r d e l t = subst (λ x. IsStepFault from.entries x step.times fault) (sym e) t

@@ -1,9 +1,9 @@
 -- The step by a move whose lead divides a part of a vector, and why there is none.
-use Rattle.std.proofs.Common.{◌≡◌, ◌≢◌, inl, inr, ℕ, ◌<◌, List, length, Some, slice_get, get_or, All, ℤ, pos, neg_ℤ, ◌-ℤ◌, arith, ap, sym, ◌∙◌, subst, false, ⊎_elim}
+use Rattle.std.proofs.Common.{◌≡◌, ◌≢◌, ◌⊎◌, inl, inr, ℕ, zero, suc, ◌≤◌, negsuc, unsigned_abs, ◌<◌, List, length, Some, slice_get, get_or, All, ℤ, pos, neg_ℤ, ◌-ℤ◌, arith, ap, sym, ◌∙◌, subst, false, ⊎_elim}
 use mir.Syntax.{w64}
 use mir.Val.{to_z, of_z}
 use lib.Signed.{mag}
-use Rattle.std.proofs.lemmas.Int.{ints}
+use Rattle.std.proofs.lemmas.Int.{ints, clamps}
 use Rattle.std.proofs.lemmas.Option.{slice_get_within}
 use Rattle.std.proofs.lemmas.Bool.{cases_Bool}
 use Rattle.std.proofs.lemmas.List.Elements.{All-map, All-weaker}
@@ -18,8 +18,9 @@ use Rattle.mk_model.specs.Reductions.{Divides, IsNormal, IsIrreducible}
 use Rattle.mk_model.specs.Overflows.{IsTimesDividing}
 use Rattle.mk_move.specs.Moves.{Weighed, IsMoveKept}
 use Rattle.mk_move.specs.MoveLists.{BasisView, IsBasis, BelongsTo, vectors_of}
-use Rattle.mk_move.specs.Sides.{part_of, IsMostTimes, DividesAt}
+use Rattle.mk_move.specs.Sides.{part_of, entry_on, IsMostTimes, DividesAt}
 use Rattle.mk_move.proofs.Readings.{entry_read}
+use Rattle.mk_move.proofs.Divisions.{not_on_both}
 use Rattle.mk_move.specs.declared.side.Side.{Side}
 use Rattle.mk_move.specs.declared.side.Side.TheVariants.{Plus, Minus}
 use Rattle.mk_reduce.specs.Leads.{leads_of}
@@ -43,11 +44,39 @@ pub times_on : (m r : List ℤ) (side : Side) (times : ℤ) → IsMostTimes (lea
 times_on m r Plus times h = record { count = h.count; some = h.some; divides = inl (h.value, h.divides) }
 times_on m r Minus times h = record { count = h.count; some = h.some; divides = inr (ap neg_ℤ h.value, h.divides) }
 
+-- a number is positive or negative, not both
+apart : (a : ℤ) → (entry_on Plus a ≡ pos 0) ⊎ (entry_on Minus a ≡ pos 0)
+apart (pos n) = inr (omega (arith, ints, clamps))
+apart (negsuc n) = inl (omega (arith, ints, clamps))
+
+-- no number of times is greater than the greatest
+pub no_greater : (m r : List ℤ) (side : Side) (times other : ℤ) → IsMostTimes (lead m) (part_of side r) times → IsTimesDividing m r other → unsigned_abs other ≤ unsigned_abs (signed side times)
+no_greater m r Plus times other h d =
+    elim d.divides [
+      | inl p ↦ rw (p.0, h.value) (h.greatest d.count p.1)
+      | inr p ↦ absurd (not_on_both m r Plus Minus times d.count apart h d.some p.1)
+    ]
+no_greater m r Minus times other h d =
+    elim d.divides [
+      | inl p ↦ absurd (not_on_both m r Minus Plus times d.count (λ a. swapped (apart a)) h d.some p.1)
+      | inr p ↦ rw (p.0, h.value) (negated d.count h.count (h.greatest d.count p.1))
+    ]
+  where
+    swapped : {A B : Type 0} → A ⊎ B → B ⊎ A
+    swapped (inl a) = inr a
+    swapped (inr b) = inl b
+
+    negated : (i j : ℕ) → i ≤ j → unsigned_abs (neg_ℤ (pos i)) ≤ unsigned_abs (neg_ℤ (pos j))
+    negated zero j l = omega arith
+    negated (suc i) (suc j) l = l
+    negated (suc i) zero l = absurd (omega arith)
+
 pub step_on : (moves : List Weighed) (r : List ℤ) (place : ℕ) (m : Weighed) (side : Side) (times : ℤ) → slice_get moves place ≡ Some m → IsMostTimes (lead m.entries) (part_of side r) times →
     IsReductionStep (vectors_of moves) r (record { times = signed side times; place = place })
 step_on moves r place m side times h d = record {
   within = omega (arith, slice_get_within moves place m h, length-vectors_of moves);
   divides = subst (λ v. IsTimesDividing v r (signed side times)) (sym (vector_at moves place m h)) (times_on m.entries r side times d);
+  greatest = λ other g. no_greater m.entries r side times other d (subst (λ v. IsTimesDividing v r other) (vector_at moves place m h) g);
 }
 
 -- the number of times, as the code has it

@@ -1,11 +1,11 @@
 -- The work on a pair: what is left of the difference of its moves, and the steps that led there. (Sturmfels, chapters 1
 -- and 5: S-pairs and reduction)
-use Rattle.std.specs.Prelude.{◌≡◌, ◌≢◌, ◌⊎◌, ℕ, ◌≤◌, ◌<◌, Bool, true, false, List, [], ◌∷◌, ◌++◌, length, All, Option, Some, None, IfSome, ℤ}
+use Rattle.std.specs.Prelude.{◌≡◌, ◌≢◌, ◌⊎◌, ℕ, ◌≤◌, ◌<◌, Bool, true, false, List, [], ◌∷◌, ◌++◌, length, All, Option, Some, None, IfSome, ℤ, unsigned_abs}
 use Rattle.mk_model.specs.Vectors.{zeros}
 use Rattle.mk_model.specs.CoreStates.{Pair, move_at, difference, IsPairOf}
 use Rattle.mk_model.specs.Overflows.{IsTimesDividing}
 use Rattle.mk_model.specs.Reductions.{Reduct, IsNormal}
-use Rattle.mk_move.specs.Moves.{Weighed, IsGraded}
+use Rattle.mk_move.specs.Moves.{Weighed, IsGraded, IsMoveKept}
 use Rattle.mk_move.specs.MoveLists.{BasisView, vectors_of}
 use Rattle.mk_move.specs.Steps.{minus_times}
 use Rattle.mk_reduce.specs.declared.step.Step.{Step}
@@ -22,10 +22,11 @@ abbrev pub rest_of : ℕ → Option Weighed → List ℤ
 rest_of n None = zeros n
 rest_of n (Some m) = m.entries
 
--- so many times the lead of the move of the place divide the part of r that the sign of the number says
+-- so many times the lead of the move of the place divide the part of r that the sign of the number says, and no more do
 pub record IsReductionStep (moves : List (List ℤ)) (r : List ℤ) (step : Step) : Type 0 where
   pub within : step.place < length moves
   pub divides : IsTimesDividing (move_at moves step.place) r step.times
+  pub greatest : (times : ℤ) → IsTimesDividing (move_at moves step.place) r times → unsigned_abs times ≤ unsigned_abs step.times
 
 -- r minus so many times the move of the place
 abbrev pub after_step : List (List ℤ) → List ℤ → Step → List ℤ
@@ -46,6 +47,7 @@ pub record IsLeftAfter (basis : BasisView) (from : Weighed) (step : Step) (left 
   pub taken : IsReductionStep (vectors_of basis.moves) from.entries step
   pub entries : rest_of (length basis.grading) left ≡ after_step (vectors_of basis.moves) from.entries step
   pub graded : IfSome left (IsRest basis.grading)
+  pub kept : IfSome left IsMoveKept
 
 -- One step more: what it leaves takes the place of what was left, and it ends the trace.
 pub record IsStepMore (basis : BasisView) (before after : TheWork) : Type 0 where
@@ -56,13 +58,15 @@ pub record IsStepMore (basis : BasisView) (before after : TheWork) : Type 0 wher
   pub leaves : IsLeftAfter basis from step left
   pub changed : after ≡ record before { remainder = left; trace = before.trace ++ step ∷ [] }
 
--- Work on a pair of the basis. Each place of the trace is below the front, unless the front is 0 and something is left.
+-- Work on a pair of the basis. What is left isn't zero, and its entries are in range. Each place of the trace is below the
+-- front, unless the front is 0 and something is left.
 pub record WorkOf (work : TheWork) (basis : BasisView) : Type 0 where
   pub pair : IsPairOf (vectors_of basis.moves) work.pair
   pub front : work.front ≤ length basis.moves
   pub steps : LeadsTo (vectors_of basis.moves) (difference (vectors_of basis.moves) work.pair) work.trace (rest_of (length basis.grading) work.remainder)
   pub reduct : Reduct (vectors_of basis.moves) (difference (vectors_of basis.moves) work.pair) (rest_of (length basis.grading) work.remainder)
   pub rest : IfSome work.remainder (IsRest basis.grading)
+  pub kept : IfSome work.remainder IsMoveKept
   pub places : All (λ step. step.place < work.front) work.trace ⊎ ((work.front ≡ 0) × (work.remainder ≢ None))
 
 -- nothing is left, or what is left is normal

@@ -51,12 +51,12 @@ impl Finder for PlainFinder {
     }
 
     fn find(&self, r: &Move, side: Side) -> Option<u32> {
-        first_dividing(&self.moves, r, side)
+        place_dividing(&self.moves, r, side)
     }
 }
 
-/// The first place whose lead divides the part of `r` on that side. All have as many columns.
-fn first_dividing(moves: &[Move], r: &Move, side: Side) -> Option<u32>
+/// A place whose lead divides the part of `r` on that side: which one is free. All have as many columns.
+fn place_dividing(moves: &[Move], r: &Move, side: Side) -> Option<u32>
     requires few { length moves.now < 2 ^ 32 }
     requires columns { All (λ lead. length lead ≡ length r.now.entries) (leads_of moves.now) }
     ensures found { IfSome result (DividesAt (leads_of moves.now) (part_of side r.now.entries)) }

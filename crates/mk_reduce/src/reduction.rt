@@ -16,9 +16,10 @@ use mk_move::{Basis, Finder, Move, Side, StepFault, subtract_times, times_dividi
 use std::alloc::Global;
 
 /// Reduces the work on a pair by the basis until nothing is left, or what is left is normal: no lead of the basis divides
-/// either part. The leads of the finder are those of the basis. `Overflow` names the move and the first column by which a
-/// step from what is kept leaves the range. After a refusal the steps done stay, and the front is 0. (Sturmfels,
-/// chapters 1 and 5: reduction to a normal form)
+/// either part. Each step takes a move off as many times as its lead divides; by which move, and on which part, is free.
+/// The leads of the finder are those of the basis. `Overflow` names the move and the first column by which a step from
+/// what is kept leaves the range. After a refusal the steps done stay, and the front is 0. (Sturmfels, chapters 1 and 5:
+/// reduction to a normal form)
 pub fn reduce<F: Finder>(
     alloc: Global,
     work: &mut Work,
@@ -48,7 +49,7 @@ pub fn reduce<F: Finder>(
     }
 }
 
-/// Makes the next step of the work, and tells whether there was one. It is unchanged where the step is refused.
+/// Makes a further step of the work, and tells whether there was one. It is unchanged where the step is refused.
 fn advance<F: Finder>(
     alloc: Global,
     work: &mut Work,
@@ -101,7 +102,7 @@ fn left_after(
     )
 }
 
-/// The step by the move of a place, whose lead divides the part of `rest` on that side: as many times as it does.
+/// The step by the move of a place, whose lead divides the part of `rest` on that side, as many times as it does.
 fn step_at(rest: &Move, basis: &Basis, place: u32, side: Side) -> Step
     requires basis { IsBasis basis.now }
     requires columns { length rest.now.entries ≡ length basis.now.grading }
@@ -122,7 +123,7 @@ fn step_at(rest: &Move, basis: &Basis, place: u32, side: Side) -> Step
     }
 }
 
-/// The next step of reduction of a move, and none exactly where it is normal.
+/// A step of reduction of a move, by which move and on which part is free; none exactly where it is normal.
 fn next_step<F: Finder>(rest: &Move, basis: &Basis, finder: &F) -> Option<Step>
     requires basis { IsBasis basis.now }
     requires leads { F.leads finder.now ≡ leads_of basis.now.moves }

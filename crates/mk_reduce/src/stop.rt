@@ -1,5 +1,5 @@
 use mk_move::{OverflowAt, StepFault};
-use std::alloc::{AllocError, AllocFailed};
+use std::alloc::AllocError;
 
 /// Why work on a pair stops: want of memory, or a column where an entry leaves the range, in the difference of the pair,
 /// or in a step by the move of a place.
@@ -16,17 +16,6 @@ impl From<AllocError> for Stop {
     ghost from_gives = { λ _ e. e ≡ Memory };
 
     fn from(_e: AllocError) -> Stop {
-        Stop::Memory
-    }
-}
-
-impl<T: Drop> From<AllocFailed<T>> for Stop {
-    ghost use Rattle.std.specs.Prelude.{◌≡◌};
-    ghost use Rattle.mk_reduce.specs.declared.stop.Stop.TheVariants.{Memory};
-
-    ghost from_gives = { λ _ e. e ≡ Memory };
-
-    fn from(_e: AllocFailed<T>) -> Stop {
         Stop::Memory
     }
 }

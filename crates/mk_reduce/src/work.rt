@@ -1,6 +1,6 @@
 use crate::step::Step;
 use mk_move::Move;
-use std::alloc::{AllocFailed, Global};
+use std::alloc::{AllocError, Global};
 use std::marker::Model;
 
 /// The work on a pair of a basis: what is left of the difference of its moves, none for zero, the steps that led there,
@@ -71,7 +71,7 @@ impl Work {
     }
 
     /// Puts a step to the trace, and keeps what it leaves. It is unchanged where there is no memory.
-    pub(crate) fn follow(&mut self, step: Step, left: Option<Move>) -> Result<(), AllocFailed<Step>>
+    pub(crate) fn follow(&mut self, step: Step, left: Option<Move>) -> Result<(), AllocError>
         ensures ok { OnOk result (self.new ≡ record self.old { remainder = left; trace = self.old.trace ++ step ∷ [] }) }
         ensures err { OnErr result (self.new ≡ self.old) }
     {

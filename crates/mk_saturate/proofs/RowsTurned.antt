@@ -10,7 +10,8 @@ use Rattle.mk_model.proofs.VectorAlgebra.{only_zeros, weight-zeros}
 use Rattle.mk_model.proofs.LatticeLaws.{is_zero-entries}
 use Rattle.mk_move.specs.Moves.{Weighed, ReadsRow}
 use Rattle.mk_move.specs.MoveLists.{BasisView, vectors_of}
-use Rattle.mk_saturate.specs.Starts.{IsRowTurned, Starts, PutsOn, with_start}
+use Rattle.mk_model.specs.Orders.{IsRowTurned}
+use Rattle.mk_saturate.specs.Starts.{Starts, PutsOn, with_start}
 use Rattle.mk_move.proofs.Belongings.{BelongsTo-of_row}
 
 pub length-cut : (rows columns : ℕ) (entries : List ℤ) → length (cut rows columns entries) ≡ rows
@@ -60,7 +61,7 @@ module _ (rows : List (List ℤ)) (r : ℕ) (row : List ℤ) (at : slice_get row
     turned (Some m) (z, k) =
         subst (λ ys. AllZip (IsRowTurned p) (nonzero_rows (take (r + 1) rows)) ys) (sym (map-append (λ (m : Weighed). m.entries) basis.moves (m ∷ [])))
         (subst (λ xs. AllZip (IsRowTurned p) xs (vectors_of basis.moves ++ m.entries ∷ [])) (sym (one_more false (other_row row k.entries.not_zero)))
-        (AllZip-push (IsRowTurned p) (nonzero_rows (take r rows)) (vectors_of basis.moves) row m.entries h.0.moves (record { either = k.entries.either; oriented = k.entries.oriented })))
+        (AllZip-push (IsRowTurned p) (nonzero_rows (take r rows)) (vectors_of basis.moves) row m.entries h.0.moves (record { either = k.entries.turned.either; oriented = k.entries.turned.oriented })))
 
     product : (found : Option Weighed) → ReadsRow row w p (Ok found) → weight w row ≡ pos 0
     product None z = ap (weight w) z ∙ weight-zeros w (length row)

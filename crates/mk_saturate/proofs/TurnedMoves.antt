@@ -6,7 +6,7 @@ use Rattle.std.proofs.lemmas.List.Elements.{AllZip-push}
 use Rattle.mk_move.specs.Moves.{Weighed, IsRowOriented, IsGraded}
 use Rattle.mk_move.specs.MoveLists.{BasisView, BelongsTo, vectors_of}
 use Rattle.mk_move.proofs.Parts.{length-oriented}
-use Rattle.mk_saturate.specs.Starts.{IsRowTurned}
+use Rattle.mk_model.specs.Orders.{IsRowTurned}
 use Rattle.mk_saturate.specs.Saturations.{IsTurnedOnto}
 use Rattle.mk_saturate.proofs.RowsTurned.{got_within}
 
@@ -15,11 +15,11 @@ pub turned_belongs : (p : List ℕ) (w : List ℤ) (row next : Weighed) → leng
 turned_belongs p w row next same h g = record {
   columns = length-oriented row.entries p next.entries h ∙ same;
   graded = g;
-  oriented = h.oriented;
+  oriented = h.turned.oriented;
 }
 
 pub turned_row : (p : List ℕ) (row entries : List ℤ) → IsRowOriented row p entries → IsRowTurned p row entries
-turned_row p row entries h = record { either = h.either; oriented = h.oriented }
+turned_row p row entries h = record { either = h.turned.either; oriented = h.turned.oriented }
 
 -- ---- one move more
 entries_at : (rows : List Weighed) (k : ℕ) (row : Weighed) → slice_get rows k ≡ Some row → get_or (vectors_of rows) k [] ≡ row.entries

@@ -1,7 +1,7 @@
 -- Rows of the same lattice have the same answer.
 use Rattle.std.proofs.Common.{ℕ, List, ℤ, ◌⊎◌, inl, inr, Contains}
 use Rattle.std.proofs.lemmas.List.Elements.{All-weaker}
-use Rattle.mk_model.specs.Bases.{IsMarkov, IsMinimal, IsMove, MovesBefore, IsEssential, IsAnswer, IsMinimalMarkovBasis}
+use Rattle.mk_model.specs.Bases.{ListsEssentialMoves, IsMarkov, IsMinimal, IsMove, MovesBefore, IsEssential, IsAnswer, IsMinimalMarkovBasis}
 use Rattle.mk_model.specs.Lattices.{lattice_of, InLattice, SameLattice}
 use Rattle.mk_model.specs.Orders.{lead, tail}
 use Rattle.mk_model.specs.Vectors.{subtract}
@@ -52,10 +52,18 @@ module _ {n : ℕ} {rows others : List (List ℤ)} {w : List ℤ} (s : SameLatti
       go m (inl c) = inl c
       go m (inr j) = inr (joined_of_others w s m j)
 
+-- a list of exactly the essential moves of the one is one of the other
+lists_of_others : {n : ℕ} {rows others : List (List ℤ)} {w : List ℤ} (s : SameLattice n rows others) (moves : List (List ℤ)) →
+    ListsEssentialMoves (lattice_of n rows w) moves → ListsEssentialMoves (lattice_of n others w) moves
+lists_of_others s moves a = record {
+  ascending = a.ascending;
+  members = λ m. (λ c. essential_of_others s m ((a.members m).0 c), λ e. (a.members m).1 (essential_of_others (SameLattice-back s) m e));
+}
+
 pub the_answer_of_others : {n : ℕ} {rows others : List (List ℤ)} {w : List ℤ} {moves : List (List ℤ)} → SameLattice n rows others → IsMinimalMarkovBasis (lattice_of n rows w) moves → IsMinimalMarkovBasis (lattice_of n others w) moves
 the_answer_of_others {moves = moves} s a = record {
   answer = answer_of_others s moves a.answer;
-  only = λ list b. a.only list (answer_of_others (SameLattice-back s) list b);
+  only = λ list b. a.only list (lists_of_others (SameLattice-back s) list b);
   markov = markov_of_others s moves a.markov;
   minimal = minimal_of_others s moves a.minimal;
 }

@@ -2,11 +2,11 @@ ghost use Rattle.std.specs.Prelude.{◌≡◌, ◌+◌, ◌<◌, ◌^◌, [], �
 ghost use Rattle.std.specs.Option.{option_copied};
 ghost use Rattle.mk_solve.specs.Books.{empty_book, settled_of};
 
-use crate::fault::InputFault;
 use mk_core::Phase;
 use mk_inter::ReducedBasis;
 use mk_ledger::OverflowStop;
 use mk_model::NoMemory;
+use mk_project::InputFault;
 use std::alloc::Global;
 use std::marker::Model;
 

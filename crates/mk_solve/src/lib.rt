@@ -4,12 +4,11 @@
 
 mod book;
 mod completing;
-mod fault;
 mod solving;
 
 pub use book::{BookStop, OverflowPlace, RunBook};
-pub use fault::{InputFault, InputFile};
 pub use mk_core::{Journal, JournalEntry, Kind, Phase};
 pub use mk_ledger::OverflowStop;
 pub use mk_minimise::MinimalList;
+pub use mk_project::{InputFault, InputFile};
 pub use solving::{RunStop, solve_alone};

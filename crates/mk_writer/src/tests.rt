@@ -1,5 +1,5 @@
 ghost use Rattle.std.specs.Prelude.{◌≡◌, ◌<◌, ◌≤◌, true, length, IfOk, All};
-ghost use Rattle.mk_desk.specs.MemoryFolders.{state_of};
+ghost use Rattle.mk_desk.specs.MemoryFolders.{memory_state};
 ghost use Rattle.mk_model.specs.Vectors.{IsEntry};
 
 use crate::{WriteFault, write_moves};
@@ -73,7 +73,7 @@ fn two_moves(rt: &(impl Abort + AllocGlobal)) -> Result<Moves, Fail> {
 // A folder that makes a file, after which its call of this number fails.
 fn making(rt: &impl AllocGlobal, call: u64, chunk: usize) -> Result<MemoryFolder, Fail>
     requires chunk { 1 ≤ chunk }
-    ensures { IfOk result (λ folder. (state_of folder).making ≡ true) }
+    ensures { IfOk result (λ folder. (memory_state folder).making ≡ true) }
 {
     let failing = vec![in rt.alloc(); call]?;
     let mut folder = MemoryFolder::new(rt.alloc(), BTreeMap::new(rt.alloc()), failing, chunk);

@@ -1,4 +1,4 @@
-use Rattle.std.proofs.Common.{◌≡◌, ◌-◌, ◌≤◌, ◌++◌, true, length, take}
+use Rattle.std.proofs.Common.{◌≡◌, ◌-◌, ◌≤◌, ◌++◌, length, take}
 use Rattle.mk_desk.specs.Folders.{WhereTold}
 use Rattle.mk_desk.proofs.transfer.put_all.Given as goal
 
@@ -8,10 +8,7 @@ invariant-loop-done g l =
     let told = g.F.Folder.told in
     record {
       within : l.done ≤ length l.piece;
-      making : (state l.folder).making ≡ true;
-      found : (state l.folder).found ≡ (state l.initial.folder).found;
-      given : (state l.folder).given ≡ (state l.initial.folder).given;
-      later : (state l.initial.folder).faults ≤ (state l.folder).faults;
+      same : state l.folder ≡ state l.initial.folder;
       untouched : l.done ≡ 0 → l.folder ≡ l.initial.folder;
       told : WhereTold (told l.initial.folder) (told l.folder) (λ before after. after ≡ record before { made = before.made ++ take l.done l.piece });
     }

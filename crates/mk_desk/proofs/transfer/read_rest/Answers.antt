@@ -1,18 +1,22 @@
-use Rattle.std.proofs.Common.{◌≡◌, ◌+◌, refl, sym, ◌∙◌, vec_len, arith}
+use Rattle.std.proofs.Common.{◌≡◌, ◌+◌, ap, sym, ◌∙◌, vec_len, arith}
 use Rattle.std.proofs.lemmas.List.{length-take}
-use Rattle.mk_desk.proofs.Telling.{where_told_then, where_told_same}
-use Rattle.mk_desk.proofs.Loading.{none_read, read_more, all_read, too_long, no_memory, refused, no_size, the_error, cause_passed_on, no_cause}
+use Rattle.mk_desk.specs.Folders.{State}
+use Rattle.mk_desk.proofs.Telling.{where_told_then, where_told_same, no_failure}
+use Rattle.mk_desk.proofs.Loading.{none_read, read_more, all_read, too_long, no_memory, refused, no_size, the_error, cause_passed_on, none_counted, given_more}
 use Rattle.mk_desk.specs.declared.transfer.LoadFault.TheVariants.{Memory}
 use Rattle.mk_desk.proofs.transfer.read_rest.Given.{Over}
 use Rattle.mk_desk.proofs.transfer.read_rest.Goals as goal
 
+given_of : {a b : State} → a ≡ b → a.given ≡ b.given
+given_of same = ap (λ (s : State). s.given) same
+
+faults_of : {a b : State} → a ≡ b → a.faults ≡ b.faults
+faults_of same = ap (λ (s : State). s.faults) same
+
 pub loop-buffer-init : goal.loop-buffer-init
 loop-buffer-init g c = record {
-  here = c.requires.here;
   within = omega (arith, c.new-bytes.ensures.len);
-  given = c.requires.given ∙ sym c.new-bytes.ensures.len;
-  making = refl;
-  later = omega arith;
+  same = ap (λ n. record (g.F.Folder.state c.args.folder.now) { given = n }) (c.requires.given ∙ sym c.new-bytes.ensures.len);
   room = c.in_ok-buffer.ensures.len;
   told = where_told_same (g.F.Folder.told c.args.folder.now) _ (none_read c.new-bytes.result.items c.new-bytes.ensures.items);
 }
@@ -20,7 +24,7 @@ loop-buffer-init g c = record {
 pub returns-in_err-count-clause-size : goal.returns-in_err-count-clause-size
 returns-in_err-count-clause-size g c = (
   λ e. absurd (no_size _ c.in_err-count.field-0.0 c.from_residual-in_err-count.result c.from_residual-in_err-count.ensures.1 _ e),
-  λ e. absurd (omega (arith, c.in_err-count.ensures.given, c.loop-buffer.invariant.given, c.loop-buffer.invariant.within)),
+  λ e. absurd (omega (arith, given_of c.in_err-count.ensures.state, given_of c.loop-buffer.invariant.same, c.loop-buffer.invariant.within)),
 )
 
 pub returns-in_err-count-clause-one_size : goal.returns-in_err-count-clause-one_size
@@ -28,7 +32,7 @@ returns-in_err-count-clause-one_size g c = λ read e. absurd (no_size _ c.in_err
 
 pub returns-in_err-count-clause-cause : goal.returns-in_err-count-clause-cause
 returns-in_err-count-clause-cause g c =
-    cause_passed_on _ _ _ _ _ c.in_err-count.field-0.0 c.from_residual-in_err-count.result c.from_residual-in_err-count.ensures.1 c.loop-buffer.invariant.later c.in_err-count.ensures.cause
+    cause_passed_on _ _ _ _ _ c.in_err-count.field-0.0 c.from_residual-in_err-count.result c.from_residual-in_err-count.ensures.1 (faults_of c.loop-buffer.invariant.same) c.in_err-count.ensures.cause
 
 pub returns-in_err-count-clause-told : goal.returns-in_err-count-clause-told
 returns-in_err-count-clause-told g c =
@@ -36,7 +40,7 @@ returns-in_err-count-clause-told g c =
     (refused c.read.new.into c.loop-buffer.bytes.items c.args.limit c.in_err-count.field-0.0 c.from_residual-in_err-count.result c.from_residual-in_err-count.ensures.1)
 
 pub returns-then-count-eq0-clause-cause : goal.returns-then-count-eq0-clause-cause
-returns-then-count-eq0-clause-cause g c = no_cause _ (g.F.Folder.state c.loop-buffer.folder) _ _ c.loop-buffer.invariant.later c.in_ok-count.ensures.cause.later (λ e. cc)
+returns-then-count-eq0-clause-cause g c = no_failure _ _ _ (none_counted (g.F.Folder.state c.args.folder.now) _ _ _ _ c.loop-buffer.invariant.same c.in_ok-count.ensures.cause (λ e. cc)) (λ e. cc)
 
 pub returns-then-count-eq0-clause-told : goal.returns-then-count-eq0-clause-told
 returns-then-count-eq0-clause-told g c =
@@ -44,7 +48,7 @@ returns-then-count-eq0-clause-told g c =
     (all_read c.read.new.into c.loop-buffer.bytes c.args.limit c.in_ok-count.count c.if-count-eq0.true (omega (arith, c.loop-buffer.invariant.within)))
 
 pub returns-then-count-left-clause-cause : goal.returns-then-count-left-clause-cause
-returns-then-count-left-clause-cause g c = no_cause _ (g.F.Folder.state c.loop-buffer.folder) _ _ c.loop-buffer.invariant.later c.in_ok-count.ensures.cause.later (λ e. cc)
+returns-then-count-left-clause-cause g c = no_failure _ _ _ (none_counted (g.F.Folder.state c.args.folder.now) _ _ _ _ c.loop-buffer.invariant.same c.in_ok-count.ensures.cause (λ e. cc)) (λ e. cc)
 
 pub returns-then-count-left-clause-told : goal.returns-then-count-left-clause-told
 returns-then-count-left-clause-told g c =
@@ -61,7 +65,6 @@ grown_by g c =
 
 pub loop-buffer-preserved : goal.loop-buffer-preserved
 loop-buffer-preserved g c = record {
-  here = c.in_ok-count.ensures.found ∙ c.loop-buffer.invariant.here;
   within =
       omega (
         arith,
@@ -73,20 +76,19 @@ loop-buffer-preserved g c = record {
         c.if-count-left.false,
         length-take c.min.result c.deref_mut.result.now,
       );
-  given =
-      c.in_ok-count.ensures.given ∙ omega (
+  same =
+      given_more (g.F.Folder.state c.args.folder.now) _ _ _ _ c.loop-buffer.invariant.same c.in_ok-count.ensures.state (none_counted (g.F.Folder.state c.args.folder.now) _ _ _ _ c.loop-buffer.invariant.same c.in_ok-count.ensures.cause (λ e. cc))
+      ∙ ap (λ n. record (g.F.Folder.state c.args.folder.now) { given = n }) (omega (
         arith,
         grown_by g c,
-        c.loop-buffer.invariant.given,
+        given_of c.loop-buffer.invariant.same,
         c.requires.limit,
         c.in_ok-count.ensures.within,
         c.len.ensures,
         c.min.ensures,
         c.loop-buffer.invariant.within,
         length-take c.min.result c.deref_mut.result.now,
-      );
-  making = c.in_ok-count.ensures.making ∙ c.loop-buffer.invariant.making;
-  later = omega (arith, c.loop-buffer.invariant.later, c.in_ok-count.ensures.cause.later);
+      ));
   room = c.loop-buffer.invariant.room;
   told =
       where_told_then _ _ _ _ _ _ c.loop-buffer.invariant.told c.in_ok-count.ensures.told
@@ -96,7 +98,7 @@ loop-buffer-preserved g c = record {
 pub returns-in_err-extend_from_slice-clause-cause :
     goal.returns-in_err-extend_from_slice-clause-cause
 returns-in_err-extend_from_slice-clause-cause g c =
-    no_cause _ (g.F.Folder.state c.loop-buffer.folder) _ c.from_residual-in_err-extend_from_slice.result c.loop-buffer.invariant.later c.read.ensures.cause.later (λ e. cc (the_error c.from_residual-in_err-extend_from_slice.result Memory c.from_residual-in_err-extend_from_slice.ensures.1))
+    no_failure _ _ c.from_residual-in_err-extend_from_slice.result (none_counted (g.F.Folder.state c.args.folder.now) _ _ _ _ c.loop-buffer.invariant.same c.in_ok-count.ensures.cause (λ e. cc)) (λ e. cc (the_error c.from_residual-in_err-extend_from_slice.result Memory c.from_residual-in_err-extend_from_slice.ensures.1))
 
 pub returns-in_err-extend_from_slice-clause-told :
     goal.returns-in_err-extend_from_slice-clause-told

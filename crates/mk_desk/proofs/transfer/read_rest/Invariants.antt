@@ -1,6 +1,5 @@
-use Rattle.std.proofs.Common.{◌≡◌, ◌+◌, ◌-◌, ◌≤◌, Some, vec_len}
+use Rattle.std.proofs.Common.{◌≡◌, ◌+◌, ◌-◌, ◌≤◌, vec_len}
 use Rattle.mk_desk.specs.Folders.{WhereTold}
-use Rattle.mk_desk.specs.declared.folder.Found.TheVariants.{Here}
 use Rattle.mk_desk.proofs.Loading.{HasRead}
 use Rattle.mk_desk.proofs.transfer.read_rest.Given as goal
 
@@ -10,11 +9,8 @@ invariant-loop-buffer g l =
     let state = g.F.Folder.state in
     let told = g.F.Folder.told in
     record {
-      here : (state l.folder).found ≡ Some Here;
       within : vec_len l.bytes ≤ l.limit;
-      given : (state l.folder).given ≡ vec_len l.bytes;
-      making : (state l.folder).making ≡ (state l.fn.folder).making;
-      later : (state l.fn.folder).faults ≤ (state l.folder).faults;
+      same : state l.folder ≡ record (state l.fn.folder) { given = vec_len l.bytes };
       room : vec_len l.buffer ≡ 65536;
       told : WhereTold (told l.fn.folder) (told l.folder) (HasRead l.bytes.items);
     }

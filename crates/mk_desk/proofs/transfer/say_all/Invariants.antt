@@ -8,10 +8,7 @@ invariant-loop-done g l =
     let told = g.F.Folder.told in
     record {
       within : l.done ≤ length l.piece;
-      making : (state l.folder).making ≡ (state l.initial.folder).making;
-      found : (state l.folder).found ≡ (state l.initial.folder).found;
-      given : (state l.folder).given ≡ (state l.initial.folder).given;
-      later : (state l.initial.folder).faults ≤ (state l.folder).faults;
+      same : state l.folder ≡ state l.initial.folder;
       untouched : l.done ≡ 0 → l.folder ≡ l.initial.folder;
       told : WhereTold (told l.initial.folder) (told l.folder) (λ before after. after ≡ said l.channel (take l.done l.piece) before);
     }

@@ -5,8 +5,7 @@ use Rattle.mk_desk.specs.Folders.{WhereTold}
 use Rattle.mk_desk.proofs.Telling.{where_told_then, where_told_weaker}
 use Rattle.mk_grading.specs.Choices.{IsGradeFault}
 use Rattle.mk_grading.specs.declared.fault.GradeFault.TheVariants.{Memory}
-use Rattle.mk_solve.specs.declared.fault.InputFile.TheVariants.{Lat, Mat, Grade}
-use Rattle.mk_input.specs.Projects.{lattice_limits, small_limits}
+use Rattle.mk_project.specs.declared.file.InputFile.TheVariants.{Lat, Mat, Grade}
 use Rattle.mk_input.specs.Readings.{ReadsFile, ReadsProject}
 use Rattle.mk_input.proofs.FilesRead.{ReadsTwo, ReadsThree, two_read, three_read, none_chosen}
 use Rattle.mk_input.proofs.reading.read_project.Goals as goal
@@ -21,9 +20,9 @@ returns-in_err-grading-clause-told g c =
     let fault = c.in_err-grading.field-0.0 in
     let start = told c.args.folder.now in
     let end = told c.read_file-3.new.folder in
-    let first = subst (λ (file : Option Grid). WhereTold start (told c.read_file.new.folder) (ReadsFile Lat lattice_limits project (Ok file))) c.in-Some.is c.in_ok-lat.ensures.told in
-    let two = where_told_then start (told c.read_file.new.folder) (told c.read_file-2.new.folder) (ReadsFile Lat lattice_limits project (Ok (Some lat))) (ReadsFile Mat small_limits project (Ok mat)) (ReadsTwo project lat mat) first c.in_ok-mat.ensures.told (two_read project lat mat) in
-    let three = where_told_then start (told c.read_file-2.new.folder) end (ReadsTwo project lat mat) (ReadsFile Grade small_limits project (Ok grade)) (ReadsThree project lat mat grade) two c.in_ok-grade.ensures.told (three_read project lat mat grade) in
+    let first = subst (λ (file : Option Grid). WhereTold start (told c.read_file.new.folder) (ReadsFile Lat project (Ok file))) c.in-Some.is c.in_ok-lat.ensures.told in
+    let two = where_told_then start (told c.read_file.new.folder) (told c.read_file-2.new.folder) (ReadsFile Lat project (Ok (Some lat))) (ReadsFile Mat project (Ok mat)) (ReadsTwo project lat mat) first c.in_ok-mat.ensures.told (two_read project lat mat) in
+    let three = where_told_then start (told c.read_file-2.new.folder) end (ReadsTwo project lat mat) (ReadsFile Grade project (Ok grade)) (ReadsThree project lat mat grade) two c.in_ok-grade.ensures.told (three_read project lat mat grade) in
     let cause = subst (λ (m : Option Grid). (fault ≡ Memory) ⊎ IsGradeFault lat m grade fault) c.as_ref.ensures.value
     (subst (λ (k : Option Grid). (fault ≡ Memory) ⊎ IsGradeFault lat (option_copied c.as_ref.result) k fault) c.as_ref-2.ensures.value c.in_err-grading.ensures.caused) in
     where_told_weaker start end (ReadsThree project lat mat grade) (ReadsProject project c.from_residual-in_err-grading.result) three

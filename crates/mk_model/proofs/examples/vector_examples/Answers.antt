@@ -1,8 +1,25 @@
 use Rattle.std.proofs.Common.{refl}
-use Rattle.mk_model.specs.Vectors.{negate, positive_part, negative_part, weight}
-use Rattle.mk_model.proofs.VectorExamples.{in_lattice, chosen, chosen_grade, grading}
+use Rattle.mk_model.specs.Vectors.{combine, add, subtract, negate, scale, positive_part, negative_part, weight}
+use Rattle.mk_model.proofs.WalkExamples.{point_of_four}
+use Rattle.mk_model.proofs.VectorExamples.{not_point, largest, too_large}
 use Rattle.mk_model.proofs.examples.vector_examples.Goals as goal
 
 pub returns : goal.returns
-unfolding negate positive_part negative_part weight
-returns c = record { positive = refl; negative = refl; weight_zero = refl; weight_five = refl; in_lattice = in_lattice; nonzero = refl; chosen = chosen; chosen_grade = chosen_grade; grading = grading }
+unfolding combine add subtract negate scale positive_part negative_part weight
+returns c = record {
+  second_entry = refl;
+  past_end = refl;
+  larger = refl;
+  total = refl;
+  difference = refl;
+  negated = refl;
+  doubled = refl;
+  positive = refl;
+  negative = refl;
+  weight_zero = refl;
+  weight_five = refl;
+  point = point_of_four 1 0 0 1;
+  not_point = not_point;
+  largest = largest;
+  too_large = too_large;
+}

@@ -4,7 +4,7 @@ use Rattle.mk_model.proofs.VectorAlgebra.{lengths}
 use Rattle.mk_reduce.specs.Works.{WorkOf}
 use Rattle.mk_reduce.specs.Stops.{IsDifferenceRefused}
 use Rattle.mk_model.specs.CoreStates.{pair_of}
-use Rattle.mk_reduce.proofs.Beginnings.{begun, not_begun, rest_is, rest_graded}
+use Rattle.mk_reduce.proofs.Beginnings.{begun, not_begun, rest_is, rest_graded, rest_kept}
 use Rattle.mk_reduce.proofs.critical_pair.critical.Goals as goal
 
 pub subtract_times-requires-clause-columns : goal.subtract_times-requires-clause-columns
@@ -25,7 +25,8 @@ returns-in-Ok-clause-work c =
     subst (λ work. WorkOf work c.args.basis.now) (sym c.new.ensures)
     (begun c.args.basis.now c.args.i c.args.j a b c.in-Ok.remainder c.requires.ordered c.move_at.ensures.value c.move_at-second.ensures.value
     (rest_is b.entries a.entries w _ c.in-Ok.remainder of_b taken)
-    (rest_graded b.entries a.entries w _ c.in-Ok.remainder (omega (arith, lengths, of_a, of_b)) taken))
+    (rest_graded b.entries a.entries w _ c.in-Ok.remainder (omega (arith, lengths, of_a, of_b)) taken)
+    (rest_kept b.entries a.entries w _ c.in-Ok.remainder taken))
 
 pub returns-in-Err-clause-refused : goal.returns-in-Err-clause-refused
 returns-in-Err-clause-refused c =

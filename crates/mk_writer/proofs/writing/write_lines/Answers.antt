@@ -1,5 +1,5 @@
 use Rattle.std.proofs.Common.{rules, arith, ◌+◌, ◌++◌, List, ℕ, ap, ◌∙◌}
-use Rattle.mk_desk.proofs.Telling.{where_told_then, where_told_weaker}
+use Rattle.mk_desk.proofs.Telling.{nothing_rose, where_told_then, where_told_weaker}
 use Rattle.mk_writer.proofs.Writings.{lines_so_far, lines_left, the_text, the_header, line_more, put_more, put_front, put_first_front}
 use Rattle.mk_writer.proofs.writing.write_lines.Goals as goal
 
@@ -25,10 +25,7 @@ loop-place-preserved g c =
     let line = line_more list place c.move_at.result.now _ (c.as_slice-in-loop-place.ensures.value ∙ c.set_move.ensures.text) (omega arith) c.move_at.ensures.value in
     record {
       room = search rules;
-      making = search rules;
-      found = search rules;
-      given = search rules;
-      later = search rules;
+      same = nothing_rose _ _ _ c.in_ok-put_all-2.ensures.state c.in_ok-put_all-2.ensures.cause (λ e. cc) ∙ c.loop-place.invariant.same;
       told =
           where_told_then _ _ _ _ _ _ c.loop-place.invariant.told c.in_ok-put_all-2.ensures.told
           (λ x y z p q. put_more (lines_so_far list place) _ x y z p q ∙ ap (λ bytes. record x { made = x.made ++ bytes }) line);

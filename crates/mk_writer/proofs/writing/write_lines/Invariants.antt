@@ -1,4 +1,4 @@
-use Rattle.std.proofs.Common.{◌≡◌, ◌+◌, ◌*◌, ◌≤◌, ◌++◌, true, vec_capacity}
+use Rattle.std.proofs.Common.{◌≡◌, ◌+◌, ◌*◌, ◌≤◌, ◌++◌, vec_capacity}
 use Rattle.mk_desk.specs.Folders.{WhereTold}
 use Rattle.mk_writer.specs.declared.line.TheConstants.{HEADER_ROOM, ENTRY_ROOM}
 use Rattle.mk_writer.proofs.Writings.{lines_so_far}
@@ -11,9 +11,6 @@ invariant-loop-place g l =
     let list = g.L.MoveList.list l.list in
     record {
       room : HEADER_ROOM + ENTRY_ROOM * list.columns ≤ vec_capacity l.line;
-      making : (state l.folder).making ≡ true;
-      found : (state l.folder).found ≡ (state l.fn.folder).found;
-      given : (state l.folder).given ≡ (state l.fn.folder).given;
-      later : (state l.fn.folder).faults ≤ (state l.folder).faults;
+      same : state l.folder ≡ state l.fn.folder;
       told : WhereTold (told l.fn.folder) (told l.folder) (λ before after. after ≡ record before { made = before.made ++ lines_so_far list l.place });
     }

@@ -1,0 +1,12 @@
+//! The files of a project: their names, what they may have, what may be wrong with them, and the line that says so.
+#![tactic(auto)]
+
+mod fault;
+mod file;
+mod lines;
+#[cfg(test)]
+mod tests;
+
+pub use fault::InputFault;
+pub use file::{FILE_LIMIT, InputFile, file_name};
+pub use lines::input_line;

@@ -31,12 +31,12 @@ const FIRST_ZERO: JournalEntry = JournalEntry {
     kind: Kind::Zero,
 };
 
-const SECOND_ZERO: JournalEntry = JournalEntry {
+const LAST_COPRIME: JournalEntry = JournalEntry {
     i: 1,
     j: 2,
     third: 0,
     worker: 0,
-    kind: Kind::Zero,
+    kind: Kind::Coprime,
 };
 
 // The journal has these entries and no other.
@@ -73,7 +73,7 @@ fn job_within(rt: &(impl Abort + AllocGlobal), budget: u64, basis_limit: u32) ->
 fn one_worker_completes(rt: HostRuntime) -> Result<(), Fail> {
     let job = job_within(&rt, 3, 65_536)?;
     let completed = complete_alone(rt.alloc(), job)?;
-    let entries = [PLACED, FIRST_ZERO, SECOND_ZERO];
+    let entries = [PLACED, FIRST_ZERO, LAST_COPRIME];
     assert_phase(&rt, completed.phase(), &MOVES, &entries);
     Ok(())
 }
@@ -121,7 +121,7 @@ fn two_workers(
 fn one_worker_finishes(rt: HostRuntime) -> Result<(), Fail> {
     let ledger = two_workers(&rt, 3, 65_536)?;
     let completed = finish_alone(rt.alloc(), ledger)?;
-    let entries = [PLACED, FIRST_ZERO, SECOND_ZERO];
+    let entries = [PLACED, FIRST_ZERO, LAST_COPRIME];
     assert_phase(&rt, completed.phase(), &MOVES, &entries);
     Ok(())
 }

@@ -38,7 +38,7 @@ const ENTRIES: [JournalEntry; 3] = [
         j: 2,
         third: 0,
         worker: 0,
-        kind: Kind::Zero,
+        kind: Kind::Coprime,
     },
 ];
 

@@ -4,9 +4,8 @@ use Rattle.std.proofs.lemmas.Option.{none-some, same_Some}
 use Rattle.std.proofs.lemmas.List.{append-nil, length-map}
 use Rattle.std.proofs.lemmas.List.Elements.{All-nil, All-append}
 use Rattle.mk_model.specs.CoreStates.{Pair, pair_of, Halt, CoreState, phase_state, start_of, halt_of, IsPairOf, IsSettled, IsFree}
-use Rattle.mk_model.specs.Events.{HasNormalReduct}
+use Rattle.mk_model.specs.Events.{HasNormalReduct, IsPairOverflow}
 use Rattle.mk_model.specs.Legal.{IsLegal, IsEnded, IsHaltKept}
-use Rattle.mk_model.specs.Overflows.{IsGenuineOverflow}
 use Rattle.mk_model.proofs.LegalEvents.{phase_is_legal}
 use Rattle.mk_move.specs.MoveLists.{BasisView, IsBasis, vectors_of}
 use Rattle.mk_ledger.specs.Entries.{settle_of, settles_of}
@@ -108,8 +107,8 @@ module _ (ledger : LedgerView) (phase : Phase) (same : IsPhaseOfLedger ledger ph
 
   pub finishes_overflow : (stop : OverflowStop) → IsFirstHalt ledger.state (Some (kept.Overflow stop)) → Finishes ledger (Err (Overflow phase stop))
   finishes_overflow stop h =
-      let (free, genuine) = kept_halt (kept.Overflow stop) h in
-      (phase_from, left (stop_of stop).pair free, subst (λ moves. IsGenuineOverflow moves (stop_of stop)) (sym vectors) genuine, halt_stands (kept.Overflow stop) h)
+      let (free, overflow) = kept_halt (kept.Overflow stop) h in
+      (phase_from, left (stop_of stop).pair free, subst (λ moves. IsPairOverflow moves (stop_of stop)) (sym vectors) overflow, halt_stands (kept.Overflow stop) h)
 
   pub finishes_full : (i j : ℕ) → IsFirstHalt ledger.state (Some (kept.Full i j)) → Finishes ledger (Err (BasisFull phase i j))
   finishes_full i j h =

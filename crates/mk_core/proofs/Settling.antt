@@ -6,7 +6,7 @@ use Rattle.mk_model.specs.Vectors.{zeros, negate}
 use Rattle.mk_model.specs.CoreStates.{Pair, Way, OverflowStop, Halt, halt_of, difference, IsPairOf}
 use Rattle.mk_model.specs.CoreStates.Way.{Place}
 use Rattle.mk_model.specs.CoreStates.Halt.{Overflow, Full}
-use Rattle.mk_model.specs.Events.{IsSettling, IsHalting, IsHaltCause}
+use Rattle.mk_model.specs.Events.{HaveCommonColumn, IsSettling, IsHalting, IsHaltCause}
 use Rattle.mk_model.specs.Overflows.{IsGenuineOverflow}
 use Rattle.mk_model.specs.Reductions.{Reduct, IsNormal}
 use Rattle.mk_model.specs.Orders.{lead}
@@ -64,9 +64,12 @@ module _ (ledger : LedgerView) (kept : IsLedger ledger) where
   pub claimed_pair : (pair : Pair) → FirstClaims ledger.state pair → IsPairOf (vectors_of ledger.basis.moves) pair
   claimed_pair pair claims = subst (λ moves. IsPairOf moves pair) kept.moves ((kept.legal.claims_unsettled 0 pair claims.claimed).0)
 
-  pub overflow_cause : (stop : OverflowStop) (pair : Pair) → FirstClaims ledger.state pair → stop.pair ≡ pair → IsGenuineOverflow (vectors_of ledger.basis.moves) stop → IsHaltCause ledger.state 0 (Overflow stop)
-  overflow_cause stop pair claims e genuine =
-      (claims.claimed ∙ ap Some (sym e), subst (λ moves. IsGenuineOverflow moves stop) (sym kept.moves) genuine)
+  pub overflow_cause : (stop : OverflowStop) (pair : Pair) → FirstClaims ledger.state pair → stop.pair ≡ pair → IsGenuineOverflow (vectors_of ledger.basis.moves) stop →
+      HaveCommonColumn ledger.state.basis pair → IsHaltCause ledger.state 0 (Overflow stop)
+  overflow_cause stop pair claims e genuine common = (
+    claims.claimed ∙ ap Some (sym e),
+    (subst (λ moves. IsGenuineOverflow moves stop) (sym kept.moves) genuine, subst (HaveCommonColumn ledger.state.basis) (sym e) common),
+  )
 
   pub not_halted : (pair : Pair) → FirstClaims ledger.state pair → halt_of ledger.state 0 ≡ None
   not_halted pair claims = go (halt_of ledger.state 0) refl

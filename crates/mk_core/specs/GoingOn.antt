@@ -1,6 +1,7 @@
 -- How a completion by one worker goes on from a ledger to a later one, and where it ends.
-use Rattle.std.specs.Prelude.{◌≡◌, ◌≢◌, ℕ, ◌≤◌, ◌<◌, List, ◌++◌, length, All, None, Some}
+use Rattle.std.specs.Prelude.{◌≡◌, ◌≢◌, ℕ, ◌≤◌, ◌<◌, Bool, true, false, List, ◌++◌, length, All, None, Some}
 use Rattle.mk_model.specs.CoreStates.{Pair, Settle, CoreState, claim_of, start_of, IsFree}
+use Rattle.mk_model.specs.Events.{IsChain, HaveCommonColumn}
 use Rattle.mk_model.specs.Legal.{IsEnded}
 use Rattle.mk_ledger.specs.Entries.{settles_of, HaveTheirThirds}
 use Rattle.mk_ledger.specs.Ledgers.{LedgerView, IsLedger}
@@ -40,6 +41,18 @@ pub record FirstClaims (state : CoreState) (pair : Pair) : Type 0 where
 pub record GoesOnUnclaimed (before after : LedgerView) : Type 0 where
   pub goes_on : ContinuesLedger before after
   pub unclaimed : NoneClaims after.state
+
+-- A pair that the first worker has claimed is skipped, and no worker has a claim; or all is as before, and the leads of the
+-- pair have a column in common.
+abbrev pub SkipsPair : LedgerView → Pair → Bool → LedgerView → Type 0
+SkipsPair before pair true after = GoesOnUnclaimed before after × (after.basis ≡ before.basis)
+SkipsPair before pair false after = (after ≡ before) × HaveCommonColumn before.state.basis pair
+
+-- a third move settles the pair that the first worker, and no other, has claimed
+pub record IsChainOfClaim (state : CoreState) (third : ℕ) : Type 0 where
+  pub pair : Pair
+  pub claims : FirstClaims state pair
+  pub chain : IsChain state.basis state.journal pair third
 
 -- The first worker is given a pair, where no worker had one, and one claim more is made, within the budget.
 pub record IsPairGiven (before after : LedgerView) (pair : Pair) : Type 0 where

@@ -3,9 +3,8 @@
 use Rattle.std.specs.Prelude.{◌≡◌, ◌≢◌, ◌⊎◌, ℕ, ◌<◌, List, ◌++◌, length, All, Option, None, Some, Result, Ok, Err}
 use Rattle.mk_model.specs.CoreStates.{Pair, pair_of, Settle, Halt, CoreState, new_state, phase_state, start_of, IsPairOf, IsSettled}
 use Rattle.mk_model.specs.CoreStates.Halt.{Overflow as HaltOverflow, Full as HaltFull}
-use Rattle.mk_model.specs.Events.{HasNormalReduct}
+use Rattle.mk_model.specs.Events.{HasNormalReduct, IsPairOverflow}
 use Rattle.mk_model.specs.Legal.{IsLegal, IsEnded}
-use Rattle.mk_model.specs.Overflows.{IsGenuineOverflow}
 use Rattle.mk_move.specs.MoveLists.{IsBasis, vectors_of}
 use Rattle.mk_ledger.specs.Entries.{settles_of, HaveTheirThirds}
 use Rattle.mk_ledger.specs.Halts.{stop_of}
@@ -72,7 +71,7 @@ abbrev pub Finishes : LedgerView → Result Phase Stopped → Type 0
 Finishes ledger (Ok phase) = IsPhaseFrom ledger phase × IsEnded (state_of phase ledger.state.budget ledger.state.limit)
 Finishes ledger (Err Memory) = Unit {0}
 Finishes ledger (Err (Overflow phase stop)) =
-    IsPhaseFrom ledger phase × IsLeft phase (stop_of stop).pair × IsGenuineOverflow (vectors_of phase.basis.moves) (stop_of stop) × IsHaltedOrWithin ledger (length phase.journal)
+    IsPhaseFrom ledger phase × IsLeft phase (stop_of stop).pair × IsPairOverflow (vectors_of phase.basis.moves) (stop_of stop) × IsHaltedOrWithin ledger (length phase.journal)
 Finishes ledger (Err (OverBudget phase)) = IsPhaseFrom ledger phase × PhaseIsOverBudget ledger phase
 Finishes ledger (Err (BasisFull phase i j)) =
     IsPhaseFrom ledger phase × IsBasisFull ledger.state.limit phase (pair_of i j) × IsHaltedOrWithin ledger (length phase.journal)

@@ -2,6 +2,7 @@
 
 ghost use Rattle.std.specs.Prelude.{◌≡◌, ◌≢◌, ◌↔◌, IfSome, ◌≤◌, ◌<◌, ℕ, length, None, Some, Ok, Err, IfOk, IfErr, OnOk, OnErr};
 ghost use Rattle.mk_model.specs.CoreStates.{Halt as CoreHalt, pair_of, claim_of, halt_of};
+ghost use Rattle.mk_model.specs.Events.{HaveCommonColumn};
 ghost use Rattle.mk_model.specs.Legal.{IsEnded};
 ghost use Rattle.mk_move.specs.MoveLists.{vectors_of};
 ghost use Rattle.mk_ledger.specs.FirstHalts.{IsFirstHalt};
@@ -12,6 +13,7 @@ ghost use Rattle.mk_core.specs.Remainders.{IsRemainderOfClaim};
 
 use crate::completed::Completed;
 use crate::phase::{Job, Phase, Stopped};
+use crate::skipping::skip_pair;
 use crate::work::{WorkFault, work_on};
 use mk_ledger::{Claim, Halt, Ledger, LedgerParts, PlaceFault};
 use mk_model::NoMemory;
@@ -20,7 +22,8 @@ use mk_reduce::PlainFinder;
 use std::alloc::Global;
 
 /// Completes the start of a job: settles each pair of the basis, in their order, until every pair is joined below. A pair
-/// whose difference doesn't reduce to 0 is settled by its remainder, which becomes the next move.
+/// whose leads have no column in common, or else that a third move settles, isn't reduced. Any other whose difference doesn't
+/// reduce to 0 is settled by its remainder, which becomes the next move.
 ///
 /// The start has at most `basis_limit` moves, and the limit is at most 65,536. `Stopped` has what was done until then:
 /// `Overflow` names the first entry out of range; `OverBudget` comes where as many pairs are settled as the budget has while
@@ -113,7 +116,8 @@ fn next_pair(ledger: &mut Ledger) -> Result<(u32, u32), Ending>
     }
 }
 
-/// Settles the pair that the worker has claimed, or halts where an entry leaves its range or the basis is full.
+/// Settles the pair that the worker has claimed: without reduction, where its leads have no column in common or a third move
+/// settles it, and else by its remainder. Or halts where an entry leaves its range or the basis is full.
 fn settle_pair(
     alloc: Global,
     ledger: &mut Ledger,
@@ -123,6 +127,27 @@ fn settle_pair(
 ) -> Result<(), NoMemory>
     requires claimed { FirstClaims ledger.old.state (pair_of i j) }
     requires leads { finder.old ≡ leads_of ledger.old.basis.moves }
+    ensures goes_on { OnOk result (GoesOnUnclaimed ledger.old ledger.new) }
+    ensures leads { OnOk result (finder.new ≡ leads_of ledger.new.basis.moves) }
+{
+    if skip_pair(ledger, i, j)? {
+        return Ok(());
+    }
+    reduce_pair(alloc, ledger, finder, i, j)
+}
+
+/// Settles the pair that the worker has claimed by its remainder, or halts where an entry leaves its range or the basis is
+/// full.
+fn reduce_pair(
+    alloc: Global,
+    ledger: &mut Ledger,
+    finder: &mut PlainFinder,
+    i: u32,
+    j: u32,
+) -> Result<(), NoMemory>
+    requires claimed { FirstClaims ledger.old.state (pair_of i j) }
+    requires leads { finder.old ≡ leads_of ledger.old.basis.moves }
+    requires common { HaveCommonColumn ledger.old.state.basis (pair_of i j) }
     ensures goes_on { OnOk result (GoesOnUnclaimed ledger.old ledger.new) }
     ensures leads { OnOk result (finder.new ≡ leads_of ledger.new.basis.moves) }
 {

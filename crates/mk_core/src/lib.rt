@@ -6,6 +6,7 @@ mod completion;
 mod dropping;
 mod phase;
 mod saturated;
+mod skipping;
 mod work;
 
 pub use completed::Completed;

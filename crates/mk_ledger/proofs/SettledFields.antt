@@ -4,11 +4,8 @@ use Rattle.std.specs.Vec.{with_item}
 use Rattle.std.proofs.lemmas.List.{map-append, get_or_default}
 use Rattle.std.proofs.lemmas.Option.{none-some, same_Some}
 use Rattle.std.proofs.lemmas.Bool.{false≢true}
-use Rattle.mk_model.specs.Vectors.{zeros}
-use Rattle.mk_model.specs.Reductions.{Reduct}
-use Rattle.mk_model.specs.CoreStates.{Pair, pair_of, Way, settle, Halt, CoreState, claim_of, halt_of, difference, IsPairOf}
-use Rattle.mk_model.specs.CoreStates.Way.{Zero}
-use Rattle.mk_model.specs.Events.{with_entry, IsSettling}
+use Rattle.mk_model.specs.CoreStates.{Pair, pair_of, Way, settle, Halt, CoreState, claim_of, halt_of, IsPairOf}
+use Rattle.mk_model.specs.Events.{IsSettledBy, with_entry, IsSettling}
 use Rattle.mk_model.specs.Events.Event.{Settles}
 use Rattle.mk_model.proofs.LegalEvents.{within_list, events_keep}
 use Rattle.mk_move.specs.MoveLists.{BasisView, vectors_of}
@@ -18,7 +15,7 @@ use Rattle.mk_ledger.specs.PairFlags.{PairFlags, pair_number}
 use Rattle.mk_ledger.specs.Entries.{settle_of, settles_of}
 use Rattle.mk_ledger.specs.Ledgers.{LedgerView, number_of, AreFlagged, AreInOrder}
 use Rattle.mk_ledger.specs.LedgerFields.{ledger_of, AreFields}
-use Rattle.mk_ledger.specs.Settlings.{IsZeroClaim, AreSmall}
+use Rattle.mk_ledger.specs.Settlings.{IsUnplacedClaim, AreSmall}
 use Rattle.mk_ledger.proofs.Settlings.{entry_keeps_order, entry_keeps_flags}
 
 -- the fields with an entry at the journal's end and no claim of the worker
@@ -65,23 +62,23 @@ module _ (fields : Inside) (kept : AreFields fields) (worker : ℕ) (pair : Pair
       go None e = e
       go (Some halt) e = absurd (none-some pair (sym (kept.ledger.legal.halted_without_claim worker halt e) ∙ claimed))
 
--- ---- a difference that reduces to 0
-module _ (fields : Inside) (kept : AreFields fields) (worker : ℕ) (claim : IsZeroClaim (length fields.basis.grading) (ledger_of fields).state worker) (entry : JournalEntry) (same : settle_of entry ≡ settle worker claim.pair Zero) where
+-- ---- no move is placed
+module _ (fields : Inside) (kept : AreFields fields) (worker : ℕ) (way : Way) (claim : IsUnplacedClaim (length fields.basis.grading) fields.basis.priority (ledger_of fields).state worker way) (entry : JournalEntry) (same : settle_of entry ≡ settle worker claim.pair way) where
   abbrev flags : PairFlags
   flags = record { moves = fields.settled.moves; flags = set fields.settled.flags (number_of claim.pair) true }
 
   abbrev after : Inside
   after = with_settled fields fields.basis flags entry worker
 
-  changed : (ledger_of after).state ≡ with_entry (ledger_of fields).state worker claim.pair Zero (vectors_of fields.basis.moves)
-  changed = settled_state fields fields.basis flags entry worker claim.pair Zero same
+  changed : (ledger_of after).state ≡ with_entry (ledger_of fields).state worker claim.pair way (vectors_of fields.basis.moves)
+  changed = settled_state fields fields.basis flags entry worker claim.pair way same
 
-  settles : IsSettling (length fields.basis.grading) fields.basis.priority (ledger_of fields).state worker Zero (ledger_of after).state
+  settles : IsSettling (length fields.basis.grading) fields.basis.priority (ledger_of fields).state worker way (ledger_of after).state
   settles = record {
     pair = claim.pair;
     claimed = claim.claimed;
     moves = vectors_of fields.basis.moves;
-    settled = (claim.reduct, refl);
+    settled = claim.settled;
     changed = changed;
   }
 
@@ -90,40 +87,48 @@ module _ (fields : Inside) (kept : AreFields fields) (worker : ℕ) (claim : IsZ
     ledger = record {
       basis = kept.ledger.basis;
       moves = refl;
-      legal = events_keep (length fields.basis.grading) fields.basis.priority (ledger_of fields).state (Settles worker Zero) (ledger_of after).state kept.ledger.legal settles;
+      legal = events_keep (length fields.basis.grading) fields.basis.priority (ledger_of fields).state (Settles worker way) (ledger_of after).state kept.ledger.legal settles;
       limit = kept.ledger.limit;
       some = kept.ledger.some;
       workers = kept.ledger.workers;
     };
     flags_moves = kept.flags_moves;
     flagged = subst (λ s. AreFlagged s flags.flags) (sym changed)
-        (entry_keeps_flags fields.settled.flags kept.flagged worker claim.pair Zero (claim_of_basis fields kept worker claim.pair claim.claimed));
-    in_order = subst AreInOrder (sym changed) (entry_keeps_order kept.in_order worker claim.pair claim.claimed Zero (vectors_of fields.basis.moves) (omega arith));
+        (entry_keeps_flags fields.settled.flags kept.flagged worker claim.pair way (claim_of_basis fields kept worker claim.pair claim.claimed));
+    in_order = subst AreInOrder (sym changed) (entry_keeps_order kept.in_order worker claim.pair claim.claimed way (vectors_of fields.basis.moves) (omega arith));
   }
 
 -- by the ledger that is seen, the pair that is held, and what the journal and the flags are afterwards
-module _ (fields : Inside) (kept : AreFields fields) (ledger : LedgerView) (seen : ledger_of fields ≡ ledger) (worker : ℕ) (claim : IsZeroClaim (length ledger.basis.grading) ledger.state worker) (held : Pair) (claimed : claim_of ledger.state worker ≡ Some held) (entry : JournalEntry) (same : settle_of entry ≡ settle worker held Zero) (journal : List JournalEntry) (settled : PairFlags) (pushed : journal ≡ fields.journal ++ entry ∷ []) where
+module _ (fields : Inside) (kept : AreFields fields) (ledger : LedgerView) (seen : ledger_of fields ≡ ledger) (worker : ℕ) (way : Way) (claim : IsUnplacedClaim (length ledger.basis.grading) ledger.basis.priority ledger.state worker way) (held : Pair) (claimed : claim_of ledger.state worker ≡ Some held) (entry : JournalEntry) (same : settle_of entry ≡ settle worker held way) (journal : List JournalEntry) (settled : PairFlags) (pushed : journal ≡ fields.journal ++ entry ∷ []) where
   abbrev changed_fields : Inside
   changed_fields = record fields { journal = journal; settled = settled; claims = with_item fields.claims worker None }
 
-  claim_seen : IsZeroClaim (length fields.basis.grading) (ledger_of fields).state worker
+  claim_held : IsUnplacedClaim (length ledger.basis.grading) ledger.basis.priority ledger.state worker way
+  claim_held = record {
+    pair = held;
+    claimed = claimed;
+    settled = subst (λ p. IsSettledBy (length ledger.basis.grading) ledger.basis.priority ledger.state.limit ledger.state.basis ledger.state.journal p way ledger.state.basis)
+        (same_Some claim.pair held (sym claim.claimed ∙ claimed)) claim.settled;
+  }
+
+  claim_seen : IsUnplacedClaim (length fields.basis.grading) fields.basis.priority (ledger_of fields).state worker way
+  unfolding claim_held
   claim_seen = record {
     pair = held;
     claimed = subst (λ l. claim_of l.state worker ≡ Some held) (sym seen) claimed;
-    reduct = subst (λ l. Reduct l.state.basis (difference l.state.basis held) (zeros (length l.basis.grading))) (sym seen)
-        (subst (λ p. Reduct ledger.state.basis (difference ledger.state.basis p) (zeros (length ledger.basis.grading))) (same_Some claim.pair held (sym claim.claimed ∙ claimed)) claim.reduct);
+    settled = subst (λ l. IsSettledBy (length l.basis.grading) l.basis.priority l.state.limit l.state.basis l.state.journal held way l.state.basis) (sym seen) claim_held.settled;
   }
 
-  pub zero_keeps : (i j : ℕ) → pair_of i j ≡ held → settled ≡ record { moves = fields.settled.moves; flags = set fields.settled.flags (pair_number i j) true } → AreFields changed_fields
+  pub unplaced_keeps : (i j : ℕ) → pair_of i j ≡ held → settled ≡ record { moves = fields.settled.moves; flags = set fields.settled.flags (pair_number i j) true } → AreFields changed_fields
   unfolding claim_seen
-  zero_keeps i j e f =
+  unplaced_keeps i j e f =
       subst (λ l. AreFields (record fields { journal = l; settled = settled; claims = with_item fields.claims worker None })) (sym pushed)
       (subst (λ s. AreFields (with_settled fields fields.basis s entry worker)) (sym (f ∙ ap (λ p. record { moves = fields.settled.moves; flags = set fields.settled.flags (number_of p) true }) e))
-      (kept_after fields kept worker claim_seen entry same))
+      (kept_after fields kept worker way claim_seen entry same))
 
-  pub zero_settles : IsSettling (length ledger.basis.grading) ledger.basis.priority ledger.state worker Zero (ledger_of changed_fields).state
+  pub unplaced_settles : IsSettling (length ledger.basis.grading) ledger.basis.priority ledger.state worker way (ledger_of changed_fields).state
   unfolding claim_seen
-  zero_settles =
-      subst (λ l. IsSettling (length l.basis.grading) l.basis.priority l.state worker Zero (ledger_of changed_fields).state) seen
-      (subst (λ l. IsSettling (length fields.basis.grading) fields.basis.priority (ledger_of fields).state worker Zero (ledger_of (record fields { journal = l; settled = settled; claims = with_item fields.claims worker None })).state) (sym pushed)
-      (settles fields kept worker claim_seen entry same))
+  unplaced_settles =
+      subst (λ l. IsSettling (length l.basis.grading) l.basis.priority l.state worker way (ledger_of changed_fields).state) seen
+      (subst (λ l. IsSettling (length fields.basis.grading) fields.basis.priority (ledger_of fields).state worker way (ledger_of (record fields { journal = l; settled = settled; claims = with_item fields.claims worker None })).state) (sym pushed)
+      (settles fields kept worker way claim_seen entry same))

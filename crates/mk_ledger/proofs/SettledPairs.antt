@@ -1,5 +1,6 @@
 -- The pairs that the journal of a legal state settles, and the flags that tell them.
-use Rattle.std.proofs.Common.{◌≡◌, ◌⊎◌, ◌↔◌, inl, inr, ℕ, ◌<◌, Bool, true, false, List, [], ◌∷◌, ◌++◌, length, get_or, ℤ, arith, sym, subst, ⊎_elim, append_assoc}
+use Rattle.std.proofs.Common.{◌≡◌, ◌⊎◌, ◌≢◌, ◌↔◌, inl, inr, ℕ, min, max, ◌<◌, ◌≤◌, Bool, true, false, List, [], ◌∷◌, ◌++◌, length, get_or, ℤ, arith, sym, subst, ⊎_elim, append_assoc}
+use Rattle.std.proofs.lemmas.Bool.{cases_lt}
 use Rattle.std.proofs.lemmas.List.{append-nil}
 use Rattle.mk_model.specs.CoreStates.{Pair, pair_of, Settle, CoreState, start_of, IsPairOf, IsSettled}
 use Rattle.mk_model.specs.Events.{AreSettled}
@@ -42,3 +43,22 @@ flag_tells legal flagged i j l k =
 pub swapped_tells : {n : ℕ} {priority : List ℕ} {state : CoreState} {flags : List Bool} → IsLegal n priority state → AreFlagged state flags → (i j : ℕ) → j < i → i < length state.basis →
     (get_or flags (pair_number j i) false ≡ true) ↔ AreSettled state.journal i j
 swapped_tells legal flagged i j l k = let here = flag_tells legal flagged j i l k in (λ e. ⊎_elim inr inl (here.0 e), λ s. here.1 (⊎_elim inr inl s))
+
+-- no pair of one place, and none past the moves, is settled
+pub none_beyond : {n : ℕ} {priority : List ℕ} {state : CoreState} → IsLegal n priority state → (i j : ℕ) → (min i j ≡ max i j) ⊎ (length state.basis ≤ max i j) → ¬ (AreSettled state.journal i j)
+none_beyond legal i j h (inl s) = let p = settled_of_basis legal (pair_of i j) s in ⊎_elim (λ e. omega (arith, e, p.ordered)) (λ l. omega (arith, l, p.ordered, p.within)) h
+none_beyond legal i j h (inr s) = let p = settled_of_basis legal (pair_of j i) s in ⊎_elim (λ e. omega (arith, e, p.ordered)) (λ l. omega (arith, l, p.ordered, p.within)) h
+
+pub either_tells : {n : ℕ} {priority : List ℕ} {state : CoreState} {flags : List Bool} → IsLegal n priority state → AreFlagged state flags → (i j : ℕ) → min i j ≢ max i j → max i j < length state.basis →
+    (get_or flags (pair_number (min i j) (max i j)) false ≡ true) ↔ AreSettled state.journal i j
+either_tells {state = state} {flags = flags} legal flagged i j apart within = go (cases_lt i j)
+  where
+    go : (i < j) ⊎ (j ≤ i) → (get_or flags (pair_number (min i j) (max i j)) false ≡ true) ↔ AreSettled state.journal i j
+    go (inl l) =
+        let low : min i j ≡ i = omega (arith, l) in
+        let high : max i j ≡ j = omega (arith, l) in
+        rw (low, high) (flag_tells legal flagged i j l (omega (arith, within, high)))
+    go (inr l) =
+        let low : min i j ≡ j = omega (arith, l) in
+        let high : max i j ≡ i = omega (arith, l) in
+        rw (low, high) (swapped_tells legal flagged i j (omega (arith, l, apart, low, high)) (omega (arith, within, high)))

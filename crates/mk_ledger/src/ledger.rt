@@ -9,8 +9,8 @@ ghost use Rattle.mk_ledger.specs.FirstHalts.{IsFirstHalt, IsHaltOf};
 ghost use Rattle.mk_ledger.specs.PairFlags.{pairs_of};
 ghost use Rattle.mk_ledger.specs.Claims.{AnswersClaim};
 ghost use Rattle.mk_ledger.specs.HeldClaims.{MayClaim, NoneHeld, IsLeastOf};
-ghost use Rattle.mk_model.specs.CoreStates.Way.{Zero};
-ghost use Rattle.mk_ledger.specs.Settlings.{IsZeroClaim, IsReductOfClaim, IsFullClaim, IsPlacing, HaltsFull, AreSmall, AreFlagsOf, IsGrown, NotFull};
+ghost use Rattle.mk_model.specs.CoreStates.Way.{Zero, Coprime};
+ghost use Rattle.mk_ledger.specs.Settlings.{IsZeroClaim, IsCoprimeClaim, IsChainClaim, IsUnplacedClaim, AreBothSettled, IsFirstUnsettled, AnswersChain, IsReductOfClaim, IsFullClaim, IsPlacing, HaltsFull, AreSmall, AreFlagsOf, IsGrown, NotFull};
 ghost use Rattle.mk_ledger.specs.Halts.{halt_as};
 
 use crate::bits::SettledBits;
@@ -19,7 +19,7 @@ use crate::halt::{Halt, KeptHalt};
 use crate::journal::{Journal, JournalEntry, Kind};
 use crate::pairs::Frontier;
 use mk_model::NoMemory;
-use mk_move::{Basis, Move};
+use mk_move::{Basis, Move, SettledPairs};
 use std::alloc::Global;
 use std::marker::Model;
 
@@ -63,6 +63,25 @@ pub struct LedgerParts {
     pub basis: Basis,
     pub journal: Journal,
     pub first_halt: Option<Halt>,
+}
+
+/// Why a claim is not settled through a third move: want of memory, or the pair of one of its places and the third, the
+/// lesser place first, that isn't settled.
+#[derive(Clone, Copy, Debug, PartialEq, Eq)]
+pub enum ChainFault {
+    Memory,
+    Unsettled { i: u32, j: u32 },
+}
+
+impl From<NoMemory> for ChainFault {
+    ghost use Rattle.std.specs.Prelude.{◌≡◌};
+    ghost use Rattle.mk_ledger.specs.declared.ledger.ChainFault.TheVariants.{Memory};
+
+    ghost from_gives = { λ _ e. e ≡ Memory };
+
+    fn from(_e: NoMemory) -> ChainFault {
+        ChainFault::Memory
+    }
 }
 
 /// Why a move is not placed.
@@ -211,18 +230,16 @@ impl Ledger {
         self.workers
     }
 
-    /// Whether the pair of two different places of the basis is settled, in either order.
+    /// Whether the pair of two places is settled, in either order.
     pub fn is_settled(&self, i: u32, j: u32) -> bool
-        requires apart { i ≢ j }
-        requires first { i < length self.now.state.basis }
-        requires second { j < length self.now.state.basis }
         ensures { IsTrue result ↔ AreSettled self.now.state.journal i j }
     {
-        if i < j {
-            self.settled.is_settled(i, j)
-        } else {
-            self.settled.is_settled(j, i)
+        let low = i.min(j);
+        let high = i.max(j);
+        if low == high || high >= self.basis.len() {
+            return false;
         }
+        self.settled.is_settled(low, high)
     }
 
     /// Answers a worker that asks for a pair and has none. Where no worker has halted, a pair is free and the budget isn't
@@ -281,8 +298,60 @@ impl Ledger {
         ensures basis { self.new.basis ≡ self.old.basis }
         ensures err { OnErr result (self.new ≡ self.old) }
     {
+        self.settle_unplaced(worker, 0, Kind::Zero)
+    }
+
+    /// Settles the claim of a worker, whose leads have no column in common. After a refusal all is as before. (Sturmfels,
+    /// chapter 1: coprime leading terms)
+    pub fn settle_coprime(&mut self, worker: u32) -> Result<(), NoMemory>
+        requires { IsCoprimeClaim self.old.state worker }
+        ensures ok { OnOk result (IsSettling (length self.old.basis.grading) self.old.basis.priority self.old.state worker Coprime self.new.state) }
+        ensures basis { self.new.basis ≡ self.old.basis }
+        ensures err { OnErr result (self.new ≡ self.old) }
+    {
+        self.settle_unplaced(worker, 0, Kind::Coprime)
+    }
+
+    /// Settles the claim of a worker through a third move, different from both, whose lead divides the least common multiple
+    /// of the two leads. `Unsettled` names the pair of the first place and the third where it isn't settled, else that of the
+    /// second place and the third. After a fault all is as before.
+    pub fn settle_chain(&mut self, worker: u32, k: u32) -> Result<(), ChainFault>
+        requires { IsChainClaim self.old.state worker k }
+        ensures { AnswersChain self.old worker k result self.new }
+    {
         let held = self.held_by(worker);
-        self.journal.push(entry_of(held, worker, 0, Kind::Zero))?;
+        if let Some((i, j)) = self.first_unsettled(held, k) {
+            return Err(ChainFault::Unsettled { i, j });
+        }
+        self.settle_unplaced(worker, k, Kind::Chain)?;
+        Ok(())
+    }
+
+    /// The first of the pairs of the held places with a third that isn't settled, the lesser place first.
+    fn first_unsettled(&self, held: Held, k: u32) -> Option<(u32, u32)>
+        ensures { MatchOption result (AreBothSettled self.now.state.journal held k)
+            (λ places. IsFirstUnsettled self.now.state.journal held k (pair_of places.0 places.1)) }
+    {
+        if !self.is_settled(held.i, k) {
+            return Some((held.i.min(k), held.i.max(k)));
+        }
+        if !self.is_settled(held.j, k) {
+            return Some((held.j.min(k), held.j.max(k)));
+        }
+        None
+    }
+
+    /// Settles the claim of a worker in a way by which no move is placed. After a refusal all is as before.
+    fn settle_unplaced(&mut self, worker: u32, third: u32, kind: Kind) -> Result<(), NoMemory>
+        requires claim { IsUnplacedClaim (length self.old.basis.grading) self.old.basis.priority self.old.state worker (way_of kind third) }
+        requires third { third < 65536 }
+        requires of_kind { third ≡ third_of (way_of kind third) }
+        ensures ok { OnOk result (IsSettling (length self.old.basis.grading) self.old.basis.priority self.old.state worker (way_of kind third) self.new.state) }
+        ensures basis { self.new.basis ≡ self.old.basis }
+        ensures err { OnErr result (self.new ≡ self.old) }
+    {
+        let held = self.held_by(worker);
+        self.journal.push(entry_of(held, worker, third, kind))?;
         self.settled.mark(held.i, held.j);
         self.claims[worker as usize] = None;
         Ok(())
@@ -362,6 +431,7 @@ impl Ledger {
         ensures worker { worker < self.now.state.workers }
         ensures no_halt { halt_of self.now.state worker ≡ None }
         ensures small { AreSmall result worker }
+        ensures kept { IsLedger self.now }
     {
         self.claims[worker as usize].unwrap()
     }
@@ -411,6 +481,14 @@ impl Ledger {
             journal: self.journal,
             first_halt,
         }
+    }
+}
+
+impl SettledPairs for Ledger {
+    ghost journal = { λ l. l.state.journal };
+
+    fn is_settled(&self, i: u32, j: u32) -> bool {
+        Ledger::is_settled(self, i, j)
     }
 }
 

@@ -13,7 +13,7 @@ pub use bits::SettledBits;
 pub use claims::Claim;
 pub use halt::{Halt, OverflowStop};
 pub use journal::{Journal, JournalEntry, Kind};
-pub use ledger::{Ledger, LedgerParts, PlaceFault};
+pub use ledger::{ChainFault, Ledger, LedgerParts, PlaceFault};
 pub use pairs::{Frontier, pair_number};
 
 #[cfg(test)]

@@ -1,12 +1,14 @@
 -- A worker that claims a pair and halts.
-use Rattle.std.proofs.Common.{◌≡◌, ℕ, List, [], ◌∷◌, Option, None, Some, ℤ, arith, ap, refl, sym, ◌∙◌}
+use Rattle.std.proofs.Common.{◌≡◌, ◌⊎◌, inl, inr, ℕ, List, [], ◌∷◌, Option, None, Some, ℤ, pos, arith, ap, refl, sym, ◌∙◌}
+use Rattle.std.proofs.lemmas.Int.{ints}
 use Rattle.std.proofs.lemmas.Option.{none-some}
+use Rattle.mk_model.specs.Vectors.{positive_part}
 use Rattle.mk_model.specs.Orders.{standard}
 use Rattle.mk_model.specs.CoreStates.{pair_of, new_state, Halt, CoreState}
 use Rattle.mk_model.specs.CoreStates.Halt.{Overflow, Full, Memory}
-use Rattle.mk_model.specs.Events.{with_claim, with_halt, first_of, HappenInTurn}
+use Rattle.mk_model.specs.Events.{HaveCommonColumn, with_claim, with_halt, first_of, HappenInTurn}
 use Rattle.mk_model.specs.Events.Event.{Claims, Halts}
-use Rattle.mk_model.specs.Worked.{cubic_top, cubic_second, column_one, begun_state, narrow_state, far_state, difference_stop, IsHalted}
+use Rattle.mk_model.specs.Worked.{cubic_top, cubic_second, column_one, begun_state, narrow_state, far_moves, far_state, difference_stop, IsHalted}
 use Rattle.mk_model.proofs.EventExamples.{first_claim}
 use Rattle.mk_model.proofs.JournalExamples.{difference_is_normal}
 use Rattle.mk_model.proofs.OverflowExamples.{in_difference}
@@ -35,13 +37,21 @@ full = (
   halted cubic_top cubic_second 2 (Full (pair_of 0 1)),
 )
 
-pub overflow : (after : CoreState) × HappenInTurn 2 (standard 2) far_state (Claims 0 ∷ Halts 0 (Overflow difference_stop) ∷ []) after × IsHalted after (Overflow difference_stop)
+in_common : HaveCommonColumn far_moves (pair_of 0 1)
+unfolding positive_part
+in_common disjoint = go (disjoint 1)
+  where
+    go : (pos 3 ≡ pos 0) ⊎ (pos 1 ≡ pos 0) → ⊥
+    go (inl e) = omega (arith, ints, e)
+    go (inr e) = omega (arith, ints, e)
+
+pub overflow : (after : CoreState) × HappenInTurn 3 (standard 3) far_state (Claims 0 ∷ Halts 0 (Overflow difference_stop) ∷ []) after × IsHalted after (Overflow difference_stop)
 overflow = (
   with_halt (with_claim far_state 0 (pair_of 0 1)) 0 (Overflow difference_stop),
   (
     with_claim far_state 0 (pair_of 0 1),
     first_claim _ _ 3,
-    (with_halt (with_claim far_state 0 (pair_of 0 1)) 0 (Overflow difference_stop), record { worker_within = omega arith; no_halt = refl; cause = (refl, in_difference); changed = refl }, refl),
+    (with_halt (with_claim far_state 0 (pair_of 0 1)) 0 (Overflow difference_stop), record { worker_within = omega arith; no_halt = refl; cause = (refl, (in_difference, in_common)); changed = refl }, refl),
   ),
   halted _ _ 3 (Overflow difference_stop),
 )

@@ -5,7 +5,7 @@ use Rattle.std.proofs.lemmas.List.Elements.{Contains-append_left, Contains-push_
 use Rattle.mk_model.specs.CoreStates.{Pair, Way, Settle, OverflowStop, move_at, difference, IsPairOf, IsSettled}
 use Rattle.mk_model.specs.CoreStates.Way.{Coprime, Chain, Zero, Place}
 use Rattle.mk_model.specs.Overflows.{IsGenuineOverflow}
-use Rattle.mk_model.specs.Events.{IsSettledBy}
+use Rattle.mk_model.specs.Events.{IsSettledBy, IsPairOverflow}
 use Rattle.mk_model.specs.Legal.{IsNext, Replays}
 use Rattle.mk_model.proofs.Reducts.{Reduct-append}
 
@@ -56,6 +56,10 @@ IsGenuineOverflow-append moves more stop h (inr (place, e, d)) =
         beyond = rw (move_at-append moves more place d.within) d.beyond;
       },
     )
+
+pub IsPairOverflow-append : (moves more : List (List ℤ)) (stop : OverflowStop) → IsPairOf moves stop.pair → IsPairOverflow moves stop → IsPairOverflow (moves ++ more) stop
+IsPairOverflow-append moves more stop h (genuine, common) =
+    (IsGenuineOverflow-append moves more stop h genuine, rw (first_at-append moves more stop.pair h, second_at-append moves more stop.pair h) common)
 
 -- ---- what settling a pair makes of the moves
 pub record Grows (limit : ℕ) (moves after : List (List ℤ)) : Type 0 where

@@ -8,7 +8,7 @@ use Rattle.mk_model.specs.CoreStates.Halt.{Overflow, Full, Memory}
 use Rattle.mk_model.specs.Events.{Event, IsClaim, IsSettling, IsHalting, given_up, first_of, with_entry, with_halt, IsHaltCause, Happens, HappenInTurn}
 use Rattle.mk_model.specs.Events.Event.{Claims, Settles, Halts}
 use Rattle.mk_model.specs.Legal.{IsNext, Replays, claims_held, IsHaltKept, IsFirstHalted, IsLegal}
-use Rattle.mk_model.proofs.Journals.{settled_cases, replay_push, IsPairOf-append, IsGenuineOverflow-append, Grows, moves_grow}
+use Rattle.mk_model.proofs.Journals.{settled_cases, replay_push, IsPairOf-append, IsPairOverflow-append, Grows, moves_grow}
 
 -- ---- a place of a list of options
 module _ {X : Type 0} where
@@ -143,7 +143,7 @@ module _ {n : ℕ} {priority : List ℕ} {state : CoreState} (legal : IsLegal n 
       }
 
       kept : (halt : Halt) → IsHaltKept state halt → IsHaltKept new halt
-      kept (Overflow stop) (f, o) = (free stop.pair f, rw grows.longer (IsGenuineOverflow-append state.basis grows.more stop f.of_basis o))
+      kept (Overflow stop) (f, o) = (free stop.pair f, rw grows.longer (IsPairOverflow-append state.basis grows.more stop f.of_basis o))
       kept (Full q) (f, (e, r)) = (free q f, rw (grows.stays e) (e, r))
       kept Memory t = t
 

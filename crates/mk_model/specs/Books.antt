@@ -3,7 +3,7 @@
 use Rattle.std.specs.Prelude.{◌≡◌, ◌⊎◌, ℕ, ◌+◌, ◌<◌, List, [], ◌∷◌, ◌++◌, length, Option, None, Some, ℤ}
 use Rattle.std.specs.List.{range_with_len, AllZip}
 use Rattle.mk_model.specs.CoreStates.{Pair, Settle, CoreState, OverflowStop, phase_state, start_of, IsFree}
-use Rattle.mk_model.specs.Events.{IsFull}
+use Rattle.mk_model.specs.Events.{IsFull, IsPairOverflow}
 use Rattle.mk_model.specs.Lattices.{Lattice, nonzero_rows}
 use Rattle.mk_model.specs.Legal.{IsLegal, IsEnded}
 use Rattle.mk_model.specs.Orders.{standard, list_of_column, IsRowTurned}
@@ -124,7 +124,7 @@ pub record StopsAtWeight (lattice : Lattice) (book : PlainBook) (stop : Overflow
 -- phase is not settled, and it is by the budget exactly where as many pairs are settled as that has.
 abbrev pub HasStopped : Lattice → ℕ → PlainBook → PlainStop → Type 0
 HasStopped lattice budget book (Overflow (AtPair number) stop) =
-    (phase : PlainPhase) × StandsAt lattice book number phase × IsFree (state_in phase) stop.pair × IsGenuineOverflow phase.basis stop
+    (phase : PlainPhase) × StandsAt lattice book number phase × IsFree (state_in phase) stop.pair × IsPairOverflow phase.basis stop
     × (settled_in book.phases < budget)
 HasStopped lattice budget book (Overflow (AtTail index) stop) = StopsAtTail lattice book index stop
 HasStopped lattice budget book (Overflow AtWeight stop) = StopsAtWeight lattice book stop

@@ -4,7 +4,7 @@ use Rattle.mk_model.specs.Vectors.{zeros, negate}
 use Rattle.mk_model.specs.Orders.{IsOriented, lead}
 use Rattle.mk_model.specs.Reductions.{lcm, Divides, Reduct, IsNormal}
 use Rattle.mk_model.specs.Pairs.{AreDisjoint}
-use Rattle.mk_model.specs.CoreStates.{Pair, pair_of, Way, Settle, settle, Halt, CoreState, claim_of, halt_of, move_at, difference, IsLesser, IsSettled, IsFree}
+use Rattle.mk_model.specs.CoreStates.{Pair, pair_of, Way, Settle, settle, OverflowStop, Halt, CoreState, claim_of, halt_of, move_at, difference, IsLesser, IsSettled, IsFree}
 use Rattle.mk_model.specs.CoreStates.Way.{Coprime, Chain, Zero, Place}
 use Rattle.mk_model.specs.CoreStates.Halt.{Overflow, Full, Memory}
 use Rattle.mk_model.specs.Overflows.{IsGenuineOverflow}
@@ -84,9 +84,17 @@ pub record IsSettling (n : ℕ) (priority : List ℕ) (state : CoreState) (worke
   pub settled : IsSettledBy n priority state.limit state.basis state.journal pair way moves
   pub changed : after ≡ with_entry state worker pair way moves
 
+-- the leads of the pair have a column in common
+abbrev pub HaveCommonColumn : List (List ℤ) → Pair → Type 0
+HaveCommonColumn moves pair = ¬ (AreDisjoint (lead (move_at moves pair.first)) (lead (move_at moves pair.second)))
+
+-- a genuine overflow at a pair that isn't settled by disjoint leads
+abbrev pub IsPairOverflow : List (List ℤ) → OverflowStop → Type 0
+IsPairOverflow moves stop = IsGenuineOverflow moves stop × HaveCommonColumn moves stop.pair
+
 -- the cause of a halt
 abbrev pub IsHaltCause : CoreState → ℕ → Halt → Type 0
-IsHaltCause state worker (Overflow stop) = (claim_of state worker ≡ Some stop.pair) × IsGenuineOverflow state.basis stop
+IsHaltCause state worker (Overflow stop) = (claim_of state worker ≡ Some stop.pair) × IsPairOverflow state.basis stop
 IsHaltCause state worker (Full pair) = (claim_of state worker ≡ Some pair) × IsFull state pair
 IsHaltCause state worker Memory = Unit {0}
 

@@ -2,8 +2,7 @@
 use Rattle.std.specs.Prelude.{◌≡◌, ◌⊎◌, ℕ, suc, ◌+◌, ◌≤◌, List, [], ◌∷◌, ◌++◌, length, Option, None, Some, ℤ}
 use Rattle.mk_model.specs.CoreStates.{Pair, Settle, Halt, CoreState, claim_of, halt_of, start_of, IsPairOf, IsSettled, IsFree}
 use Rattle.mk_model.specs.CoreStates.Halt.{Overflow, Full, Memory}
-use Rattle.mk_model.specs.Overflows.{IsGenuineOverflow}
-use Rattle.mk_model.specs.Events.{IsSettledBy, IsFull}
+use Rattle.mk_model.specs.Events.{IsSettledBy, IsFull, IsPairOverflow}
 
 -- An entry for a pair of the moves so far that none of the earlier entries names, whose condition holds; and the moves
 -- afterwards.
@@ -26,7 +25,7 @@ claims_held (Some pair ∷ claims) = suc (claims_held claims)
 
 -- a kept halt has its cause, and its pair is free
 abbrev pub IsHaltKept : CoreState → Halt → Type 0
-IsHaltKept state (Overflow stop) = IsFree state stop.pair × IsGenuineOverflow state.basis stop
+IsHaltKept state (Overflow stop) = IsFree state stop.pair × IsPairOverflow state.basis stop
 IsHaltKept state (Full pair) = IsFree state pair × IsFull state pair
 IsHaltKept state Memory = Unit {0}
 

@@ -206,9 +206,9 @@ chain_moves =
     (pos 1 ∷ pos 1 ∷ neg_ℤ (pos 1) ∷ neg_ℤ (pos 1) ∷ [])
     ∷ (pos 1 ∷ neg_ℤ (pos 1) ∷ pos 1 ∷ neg_ℤ (pos 1) ∷ []) ∷ cubic_third ∷ []
 
--- ---- overflows: 9223372036854775807 less -1, in the difference of a pair of two columns
+-- ---- overflows: 9223372036854775807 less -1, in the difference of a pair
 abbrev pub far_moves : List (List ℤ)
-far_moves = (neg_ℤ (pos 1) ∷ pos 1 ∷ []) ∷ (pos 9223372036854775807 ∷ neg_ℤ (pos 9223372036854775807) ∷ []) ∷ []
+far_moves = (neg_ℤ (pos 1) ∷ pos 3 ∷ neg_ℤ (pos 1) ∷ []) ∷ (pos 9223372036854775807 ∷ pos 1 ∷ neg_ℤ (pos 4611686018427387904) ∷ []) ∷ []
 
 abbrev pub far_state : CoreState
 far_state = new_state far_moves 3 3 2

@@ -304,7 +304,7 @@ pub fn halt_examples()
         × HappenInTurn 4 column_one narrow_state (Claims 0 ∷ Halts 0 (Full (pair_of 0 1)) ∷ []) after
         × IsHalted after (Full (pair_of 0 1)) }
     ensures overflow { (after : CoreState)
-        × HappenInTurn 2 (standard 2) far_state (Claims 0 ∷ Halts 0 (Overflow difference_stop) ∷ []) after
+        × HappenInTurn 3 (standard 3) far_state (Claims 0 ∷ Halts 0 (Overflow difference_stop) ∷ []) after
         × IsHalted after (Overflow difference_stop) }
     ensures no_claim { (worker : ℕ) (after : CoreState) → ¬ (HappenInTurn 4 column_one begun_state
         (Claims 0 ∷ Halts 0 Memory ∷ Claims worker ∷ []) after) }

@@ -11,3 +11,4 @@ pub mod Belongings
 pub mod Blocks
 pub mod MaskTests
 pub mod MaskOrders
+pub mod Chains

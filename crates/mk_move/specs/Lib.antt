@@ -5,3 +5,4 @@ pub mod Sides
 pub mod Steps
 pub mod MoveLists
 pub mod Masks
+pub mod Chains

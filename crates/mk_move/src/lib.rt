@@ -3,6 +3,7 @@
 #![tactic(auto)]
 
 mod basis;
+mod chain;
 mod finder;
 mod grading;
 mod leads;
@@ -11,10 +12,12 @@ mod masks;
 mod moves;
 mod orders;
 mod priority;
+mod settled;
 mod side;
 mod steps;
 
 pub use basis::{Basis, PushFault};
+pub use chain::chain_divides;
 pub use finder::Finder;
 pub use grading::{Grading, GradingFault, product_of};
 pub use leads::{coprime_leads, lead_divides, times_dividing};
@@ -22,6 +25,7 @@ pub use list::MoveList;
 pub use moves::{Move, MoveFault};
 pub use orders::{compare_leads, move_order};
 pub use priority::Priority;
+pub use settled::SettledPairs;
 pub use side::Side;
 pub use steps::{OverflowAt, StepFault, subtract_times};
 

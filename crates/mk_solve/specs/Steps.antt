@@ -4,6 +4,7 @@ use Rattle.mk_model.specs.Bases.{IsAnswer}
 use Rattle.mk_model.specs.CoreStates.{pair_of}
 use Rattle.mk_model.specs.Lattices.{SameLattice}
 use Rattle.mk_model.specs.Legal.{IsEnded}
+use Rattle.mk_model.specs.Events.{IsPairOverflow}
 use Rattle.mk_model.specs.Overflows.{IsGenuineOverflow, IsTailOverflow, IsPairOfWeight}
 use Rattle.mk_model.specs.ReducedBases.{IsReducedBasis}
 use Rattle.mk_move.specs.Moves.{IsGraded}
@@ -38,7 +39,7 @@ KeepsStop before phase stop Memory after = after ≡ before
 -- Why the phase of a number stops, where the phases up to it settled so many pairs.
 abbrev pub IsPhaseStop : Job → ℕ → ℕ → Phase → BookStop → Type 0
 IsPhaseStop job number settled phase (Overflow (Pair n) stop) =
-    (n ≡ number) × IsLeft phase (stop_of stop).pair × IsGenuineOverflow (vectors_of phase.basis.moves) (stop_of stop) × (length phase.journal < job.budget)
+    (n ≡ number) × IsLeft phase (stop_of stop).pair × IsPairOverflow (vectors_of phase.basis.moves) (stop_of stop) × (length phase.journal < job.budget)
 IsPhaseStop job number settled phase (Overflow (Tail index) stop) = ⊥
 IsPhaseStop job number settled phase (Overflow Degree stop) = ⊥
 IsPhaseStop job number settled phase (Budget n) = (n ≡ settled) × PhaseIsOverBudget (ledger_for job) phase

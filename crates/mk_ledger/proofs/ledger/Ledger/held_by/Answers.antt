@@ -1,5 +1,6 @@
 use Rattle.std.proofs.Common.{◌≡◌, ◌<◌, None, Some, IsSome, sym, subst}
 use Rattle.mk_model.specs.CoreStates.{claim_of, halt_of, IsPairOf}
+use Rattle.mk_ledger.specs.Ledgers.{IsLedger}
 use Rattle.mk_ledger.specs.LedgerFields.{ledger_of}
 use Rattle.mk_ledger.proofs.SettledFields.{claim_read, claim_of_basis, claim_small, claim_worker, claim_no_halt}
 use Rattle.mk_ledger.proofs.ledger.Ledger.held_by.Goals as goal
@@ -16,4 +17,5 @@ returns c =
       worker = subst (λ l. c.args.worker < l.state.workers) c.self.view_is (claim_worker fields c.self.invariant c.args.worker held claimed);
       no_halt = subst (λ l. halt_of l.state c.args.worker ≡ None) c.self.view_is (claim_no_halt fields c.self.invariant c.args.worker held claimed);
       small = claim_small fields c.self.invariant c.args.worker held claimed;
+      kept = subst IsLedger c.self.view_is c.self.invariant.ledger;
     }

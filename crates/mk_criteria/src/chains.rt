@@ -1,0 +1,68 @@
+//! Third moves through which a pair is settled.
+
+ghost use Rattle.std.specs.Prelude.{◌↔◌, ℕ, ◌<◌, ◌≤◌, IsTrue, IfSome, IfNone, length};
+ghost use Rattle.mk_model.specs.CoreStates.{pair_of};
+ghost use Rattle.mk_model.specs.Events.{IsChain};
+ghost use Rattle.mk_move.specs.MoveLists.{vectors_of};
+ghost use Rattle.mk_criteria.specs.ThirdMoves.{IsThirdMove, IsLeastThirdMove, IsLeastChain};
+
+use mk_move::{Basis, SettledPairs, chain_divides};
+
+/// The least third move by which the pair of two places is settled, and none exactly where there is none: its lead divides
+/// the least common multiple of the two leads, and its pairs with both are settled. It takes no memory. (Sturmfels, chapter
+/// 1: the pairs that Buchberger's algorithm needn't reduce)
+pub fn find_chain<S: SettledPairs>(basis: &Basis, settled: &S, i: u32, j: u32) -> Option<u32>
+    requires ordered { i < j }
+    requires within { j < length basis.now.moves }
+    ensures found { IfSome result (IsLeastChain (vectors_of basis.now.moves) (S.journal settled.now) (pair_of i j)) }
+    ensures none { IfNone result ((k : ℕ) → ¬ (IsChain (vectors_of basis.now.moves) (S.journal settled.now) (pair_of i j) k)) }
+{
+    for k in 0..basis.len() {
+        if is_chain(basis, settled, i, j, k) {
+            return Some(k);
+        }
+    }
+    None
+}
+
+/// The least place from `from` on of another move than the two of the pair whose lead divides the least common multiple of
+/// their leads, and none exactly where there is none. It takes no memory.
+pub fn chain_candidates(basis: &Basis, i: u32, j: u32, from: u32) -> Option<u32>
+    requires ordered { i < j }
+    requires within { j < length basis.now.moves }
+    ensures found { IfSome result (IsLeastThirdMove (vectors_of basis.now.moves) (pair_of i j) from) }
+    ensures none { IfNone result ((k : ℕ) → from ≤ k → ¬ (IsThirdMove (vectors_of basis.now.moves) (pair_of i j) k)) }
+{
+    for k in from..basis.len() {
+        if is_third_move(basis, i, j, k) {
+            return Some(k);
+        }
+    }
+    None
+}
+
+/// Is the pair of two places settled by a third move?
+fn is_chain<S: SettledPairs>(basis: &Basis, settled: &S, i: u32, j: u32, k: u32) -> bool
+    requires ordered { i < j }
+    requires within { j < length basis.now.moves }
+    requires third { k < length basis.now.moves }
+    ensures { IsTrue result ↔ IsChain (vectors_of basis.now.moves) (S.journal settled.now) (pair_of i j) k }
+{
+    if !is_third_move(basis, i, j, k) {
+        return false;
+    }
+    settled.is_settled(i, k) && settled.is_settled(j, k)
+}
+
+/// Is it another move than the two of the pair, whose lead divides the least common multiple of their leads?
+fn is_third_move(basis: &Basis, i: u32, j: u32, k: u32) -> bool
+    requires ordered { i < j }
+    requires within { j < length basis.now.moves }
+    requires third { k < length basis.now.moves }
+    ensures { IsTrue result ↔ IsThirdMove (vectors_of basis.now.moves) (pair_of i j) k }
+{
+    if k == i || k == j {
+        return false;
+    }
+    chain_divides(basis, i, j, k)
+}

@@ -159,7 +159,7 @@ impl Move {
         requires { column < length self.now.entries }
         ensures { result ≡ entry self.now.entries column }
     {
-        i128::from(self.entries.as_slice()[column as usize])
+        self.entries.as_slice()[column as usize]
     }
 
     /// The weight of its lead, and of its tail.

@@ -1,6 +1,6 @@
 use Rattle.std.proofs.Common.{◌≡◌, pos, get_or, arith, rules, inl, inr, refl}
-use Rattle.mk_move.proofs.Entries.{as_entry}
-use Rattle.mk_move.proofs.Readings.{less, not_less, entry_read}
+use Rattle.mk_move.proofs.Entries.{as_entry, entry_read}
+use Rattle.mk_move.proofs.Readings.{less, not_less}
 use Rattle.mk_move.proofs.Divisions.{disjoint_more, disjoint_whole, disjoint_not}
 use Rattle.mk_move.proofs.leads.are_disjoint.Goals as goal
 use Rattle.mk_move.proofs.leads.are_disjoint.Goals.{In-loop-column, else-entry-gt0-via-then-entry-gt0+else-b-column-gt0, else-entry-gt0-via-else-entry-gt0}

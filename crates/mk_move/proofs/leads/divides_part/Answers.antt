@@ -1,7 +1,7 @@
 use Rattle.std.proofs.Common.{◌≡◌, pos, get_or, arith, rules}
 use Rattle.mk_move.specs.Sides.{entry_on}
-use Rattle.mk_move.proofs.Entries.{as_entry}
-use Rattle.mk_move.proofs.Readings.{less, not_less, entry_read, part_read}
+use Rattle.mk_move.proofs.Entries.{as_entry, entry_read}
+use Rattle.mk_move.proofs.Readings.{less, not_less, part_read}
 use Rattle.mk_move.proofs.Divisions.{divides_more, divides_whole, divides_not}
 use Rattle.mk_move.proofs.leads.divides_part.Goals as goal
 use Rattle.mk_move.proofs.leads.divides_part.Goals.{After-entry_of}

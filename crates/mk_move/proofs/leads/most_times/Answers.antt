@@ -4,9 +4,9 @@ use borrow.Author.Differences.{up}
 use Rattle.std.specs.Int.{int_min}
 use Rattle.std.proofs.lemmas.Int.{ints, to_z-of_z}
 use Rattle.mk_move.specs.Sides.{entry_on}
-use Rattle.mk_move.proofs.Entries.{as_entry, entry_width}
-use Rattle.mk_move.proofs.Readings.{less, not_less, entry_read, part_read, quotient_read}
-use Rattle.mk_move.proofs.Divisions.{IsTimesSoFar, times_at_first, times_same, times_less, times_whole, natural, entry_on_nonnegative, entry_on_most}
+use Rattle.mk_move.proofs.Entries.{as_entry, entry_width, entry_read}
+use Rattle.mk_move.proofs.Readings.{less, not_less, part_read, quotient_read}
+use Rattle.mk_move.proofs.Divisions.{IsTimesSoFar, times_at_first, times_same, times_less, times_range, times_whole, natural, entry_on_nonnegative, entry_on_most}
 use Rattle.mk_move.proofs.leads.most_times.Goals as goal
 use Rattle.mk_move.proofs.leads.most_times.Goals.{then-entry-gt0, else-entry-gt0}
 
@@ -37,6 +37,10 @@ loop-column-preserved c =
           (times_same c.args.lead.now c.args.row.now c.args.side n times (not_less _ _ (pos 0) _ refl lead_is w.if-entry-gt0.false) c.loop-column.invariant)
     ]
 
-pub returns : goal.returns
-returns c =
+pub returns-clause-range : goal.returns-clause-range
+returns-clause-range c =
+    times_range c.args.lead.now c.args.row.now c.args.side c.loop-column.column (to_z entry_width c.loop-column.times-bits) c.loop-column.invariant
+
+pub returns-clause-most : goal.returns-clause-most
+returns-clause-most c =
     times_whole c.args.lead.now c.args.row.now c.args.side c.loop-column.column (to_z entry_width c.loop-column.times-bits) (omega arith) c.loop-column.invariant

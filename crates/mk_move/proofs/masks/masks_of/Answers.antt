@@ -1,6 +1,6 @@
 use Rattle.std.proofs.Common.{◌≡◌, ◌/◌, pos, get_or, refl, arith, ap, ◌∙◌}
-use Rattle.mk_move.proofs.Entries.{as_entry}
-use Rattle.mk_move.proofs.Readings.{less, not_less, entry_read}
+use Rattle.mk_move.proofs.Entries.{as_entry, entry_read}
+use Rattle.mk_move.proofs.Readings.{less, not_less}
 use Rattle.mk_move.proofs.Blocks.{with_block, masks_first, masks_positive, masks_negative, masks_neither, masks_as_they_are, masks_whole}
 use Rattle.mk_move.proofs.masks.masks_of.Goals as goal
 use Rattle.mk_move.proofs.masks.masks_of.Goals.{then-entry-gt0, else-entry-gt0+then-entry-lt0, else-entry-gt0+else-entry-lt0}

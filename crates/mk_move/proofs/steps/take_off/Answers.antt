@@ -2,8 +2,8 @@ use Rattle.std.proofs.Common.{◌≡◌, ◌+◌, ℤ, pos, arith, sym, ap, subs
 use Rattle.mk_model.specs.Vectors.{entry}
 use Rattle.mk_model.specs.Overflows.{IsBeyond}
 use Rattle.mk_move.specs.Steps.{GivesEntry}
-use Rattle.mk_move.proofs.Entries.{as_entry}
-use Rattle.mk_move.proofs.Readings.{entry_read, wide_read, less_read}
+use Rattle.mk_move.proofs.Entries.{as_entry, entry_read}
+use Rattle.mk_move.proofs.Readings.{less_read}
 use Rattle.mk_move.proofs.Differences.{IsTakenOff, one_taken, all_taken, taken_lesser}
 use Rattle.mk_move.proofs.steps.take_off.Goals as goal
 use Rattle.mk_move.proofs.steps.take_off.Goals.{In-loop-column}
@@ -30,9 +30,9 @@ returns-in_default-clause-refused c =
     let at = (goal.at.returns-in_default-clause-refused c).In-loop-column in
     record {
       within = c.loop-column-test.true;
-      left = wide_read (entry c.args.row.now n) c.from.result (c.requires.left n (pos 0) (omega arith)) (c.from.ensures ∙ ap (λ (a : ℤ). as_entry a) (entry_is at));
-      times = wide_read c.args.times c.from-in_default.result c.requires.times c.from-in_default.ensures;
-      right = wide_read (entry c.args.right.now n) c.from-in_default-2.result (c.requires.right n (pos 0) (omega arith)) c.from-in_default-2.ensures;
+      left = ap (λ (a : ℤ). as_entry a) (entry_is at) ∙ entry_read (entry c.args.row.now n) (c.requires.left n (pos 0) (omega arith));
+      times = entry_read c.args.times c.requires.times;
+      right = entry_read (entry c.args.right.now n) (c.requires.right n (pos 0) (omega arith));
       beyond = subst IsBeyond (number at) c.in_default.ensures;
       lesser = taken_lesser c.args.row.now c.args.right.now c.args.times n c.loop-column.row (so_far at);
     }

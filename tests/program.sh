@@ -1,24 +1,30 @@
 #!/usr/bin/env bash
-# Runs the built program over real files and compares its status, what it says and the files that it leaves.
+# Runs the built program over real files and compares its status, what it says and the files that it leaves: each folder of
+# examples/ against its answer, and what only real files show. The rows of whole runs stand in crates/mk_rows.
 # Usage: tests/program.sh PROGRAM
 
-[ $# -eq 1 ] && [ -f "$1" ] && [ -x "$1" ] || { echo "usage: $0 PROGRAM" >&2; exit 2; }
-program=$(realpath "$1")
+[ $# -eq 1 ] && [ -f "$1" ] || { echo "usage: $0 PROGRAM" >&2; exit 2; }
+examples=$(realpath "$(dirname "$0")/../examples") || exit 2
 work=$(mktemp -d) || exit 2
+chmod 755 "$work"
+program=$work/markov
+cp "$1" "$program" && chmod 755 "$program"
 trap 'rm -rf "$work"' EXIT
 folder=$work/folder
 errors=$work/err
 limit=
+as=()
 passed=0
 failed=0
 
 usage='usage: markov [--workers N] [--budget N] PROJECT or markov [--workers N] [--budget N] --model RxC[xD]'
-overflow='markov: overflow in column 2: 4611686018427387905 - (1) * (-4611686018427387905)'
+failed_line='markov: a file or stream failed'
 
 # An empty folder for the next case.
 fresh() {
     rm -rf "$folder"
     mkdir "$folder"
+    chmod 777 "$folder"
     wanted=()
 }
 
@@ -37,12 +43,13 @@ stays() {
 
 # A file that the case makes.
 made() {
+    rm -rf "$work/want.$1"
     printf -- "$2" >"$work/want.$1"
     wanted+=("$1")
 }
 
 # Runs the program on the words behind the first three: the name of the case, the status, and the line on standard
-# error, or nothing. Standard error goes to $errors, and no file grows past $limit KiB.
+# error, or nothing. Standard error goes to $errors, no file grows past $limit KiB, and $as are the words that run it as another user.
 ends() {
     local name=$1 status=$2 line=$3 faults=() got file
     shift 3
@@ -54,7 +61,7 @@ ends() {
             trap '' XFSZ
             ulimit -f "$limit"
         fi
-        exec timeout 60 "$program" "$@"
+        exec timeout 60 "${as[@]}" "$program" "$@"
     ) >"$work/out" 2>"$errors" </dev/null
     got=$?
     [ "$got" -eq "$status" ] || faults+=("status $got for $status")
@@ -73,119 +80,54 @@ ends() {
     fi
 }
 
-# A lattice that has this answer, without and over an older one.
+# A lattice that has this answer.
 answers() {
-    local older
-    for older in '' '7 7\nan older answer\n'; do
-        fresh
-        given P.lat "$1"
-        given Q.mar 'other\n'
-        [ -z "$older" ] || printf "$older" >"$folder/P.mar"
-        made P.mar "$2"
-        ends "answer to $1" 0 '' P
-    done
+    fresh
+    given P.lat "$1"
+    made P.mar "$2"
+    ends "answer to $1" 0 '' P
 }
 
-# A lattice that is refused with this line, without and over an older answer.
+# A lattice that is refused with this line, under an older answer.
 refuses() {
     fresh
     given P.lat "$1"
+    given P.mar '7 7\nan older answer\n'
     ends "no answer to $1" 2 "$2" P
-    given P.mar '7 7\nan older answer\n'
-    ends "an older answer stays at $1" 2 "$2" P
 }
 
-# A lattice with a file beside it that has this answer.
-answers_with() {
+# Each example, whose answer beside it was found by 4ti2-markov (bench/expected.sh).
+for example in "$examples"/*/; do
+    name=$(basename "$example")
     fresh
-    given "$1" "$2"
-    given P.lat "$3"
-    made P.mar "$4"
-    ends "answer to $3 with $1" 0 '' P
-}
-
-# A lattice with a file beside it that is refused with this line, under an older answer.
-refuses_with() {
-    fresh
-    given "$1" "$2"
-    given P.lat "$3"
-    given P.mar '7 7\nan older answer\n'
-    ends "no answer to $3 with $1 $2" 2 "$4" P
-}
-
-# Words that stand for no project.
-faulty() {
-    fresh
-    given P.lat '1 2\n2 -2\n'
-    ends "faulty words ($*)" 1 "$usage" "$@"
-}
-
-# Words behind the first that stand for the project that it names.
-names() {
-    local project=$1
-    shift
-    fresh
-    given "$project.lat" '1 2\n-2 2\n'
-    made "$project.mar" '1 2\n2 -2\n'
-    ends "words of a project ($*)" 0 '' "$@"
-}
-
-answers '0 4\n' '0 4\n'
-answers '1 3\n0 0 0\n' '0 3\n'
-answers '0 0\n' '0 0\n'
-answers '1 2\n2 -2\n' '1 2\n2 -2\n'
-answers '1 8\n-1 1 1 -1 1 -1 -1 1\n' '1 8\n1 -1 -1 1 -1 1 1 -1\n'
-answers '2 3\n1 -1 0\n0 1 -1\n' '2 3\n0 1 -1\n1 0 -1\n'
-answers '2 3\n2 -2 0\n0 2 -2\n' '2 3\n0 2 -2\n2 0 -2\n'
-answers '3 2\n1 -1\n2 -2\n1 -1\n' '1 2\n1 -1\n'
-answers '1 2\n9223372036854775807 -9223372036854775807\n' '1 2\n9223372036854775807 -9223372036854775807\n'
-
-# Lattices whose reduced basis has a move more, which isn't essential.
-answers '2 3\n3 -1 -2\n1 1 -2\n' '2 3\n1 1 -2\n2 -2 0\n'
-answers '2 4\n2 1 -3 0\n0 1 1 -2\n' '2 4\n0 1 1 -2\n2 1 -3 0\n'
-
-# Leads that overlap, each two of the rows'.
-answers '3 4\n1 1 -1 -1\n1 -1 1 -1\n1 -1 -1 1\n' '6 4\n0 0 2 -2\n-1 1 1 -1\n1 -1 1 -1\n0 2 0 -2\n1 1 -1 -1\n2 0 0 -2\n'
-
-# Several bases of one lattice: rows exchanged, negated, and replaced by sums.
-for basis in '1 -2 1 0\n0 1 -2 1' '0 1 -2 1\n1 -2 1 0' '-1 2 -1 0\n0 -1 2 -1' '1 -1 -1 1\n0 1 -2 1'; do
-    answers "2 4\n$basis\n" '3 4\n0 -1 2 -1\n-1 1 1 -1\n-1 2 -1 0\n'
+    for file in "$example"*; do
+        file=$(basename "$file")
+        if [ "$file" = "$name.mar" ]; then
+            rm -rf "$work/want.$file"
+            cp "$example$file" "$work/want.$file"
+            wanted+=("$file")
+        else
+            cp "$example$file" "$folder/$file"
+            stays "$file"
+        fi
+    done
+    ends "the example $name" 0 '' "$name"
 done
 
-# The same for tables of three rows and three columns with the same sums.
-nine_moves='9 9\n0 0 0 0 -1 1 0 1 -1\n0 -1 1 0 0 0 0 1 -1\n0 0 0 -1 0 1 1 0 -1\n0 0 0 -1 1 0 1 -1 0\n-1 0 1 0 0 0 1 0 -1\n-1 1 0 0 0 0 1 -1 0\n0 -1 1 0 1 -1 0 0 0\n-1 0 1 1 0 -1 0 0 0\n-1 1 0 1 -1 0 0 0 0\n'
-answers '4 9\n1 -1 0 -1 1 0 0 0 0\n0 1 -1 0 -1 1 0 0 0\n0 0 0 1 -1 0 -1 1 0\n0 0 0 0 1 -1 0 -1 1\n' "$nine_moves"
-answers '4 9\n1 0 -1 -1 0 1 0 0 0\n0 1 -1 0 -1 1 0 0 0\n0 0 0 1 -1 0 -1 1 0\n0 0 0 0 1 -1 0 -1 1\n' "$nine_moves"
-answers '4 9\n0 0 0 0 1 -1 0 -1 1\n0 -1 1 0 1 -1 0 0 0\n0 0 0 -1 1 0 1 -1 0\n1 -1 0 -1 1 0 0 0 0\n' "$nine_moves"
-
-# Gradings from beside the lattice: the curve 3 4 5 by its grade, the curve 1 2 3 by its matrix, and the margins of tables.
-curve='2 3\n1 -2 1\n3 -1 -1\n'
-answers_with P.grade '1 3\n3 4 5\n' "$curve" '3 3\n-1 2 -1\n3 -1 -1\n2 1 -2\n'
-answers_with P.mat '1 3\n1 2 3\n' '2 3\n2 -1 0\n1 1 -1\n' '2 3\n2 -1 0\n1 1 -1\n'
-margins='6 9\n1 1 1 0 0 0 0 0 0\n0 0 0 1 1 1 0 0 0\n0 0 0 0 0 0 1 1 1\n1 0 0 1 0 0 1 0 0\n0 1 0 0 1 0 0 1 0\n0 0 1 0 0 1 0 0 1\n'
-answers_with P.mat "$margins" '4 9\n1 -1 0 -1 1 0 0 0 0\n0 1 -1 0 -1 1 0 0 0\n0 0 0 1 -1 0 -1 1 0\n0 0 0 0 1 -1 0 -1 1\n' "$nine_moves"
-
-# No grading, or one that doesn't fit.
-cubic='2 4\n1 -2 1 0\n0 1 -2 1\n'
-refuses '1 2\n1 1\n' 'markov: P: no positive grading found'
-refuses_with P.grade '1 2\n1 1\n' '1 2\n1 1\n' 'markov: P.grade: product with P.lat row 1 is 2'
-refuses_with P.grade '1 2\n0 1\n' '1 2\n1 -1\n' 'markov: P.grade: column 1 is 0'
-refuses_with P.grade '1 3\n1 1 1\n' '1 2\n1 -1\n' 'markov: P.grade: 1 rows and 3 columns, 1 and 2 wanted'
-refuses_with P.mat '1 4\n1 2 3 5\n' "$cubic" 'markov: P.mat: row 1 times P.lat row 2 is 1'
-refuses_with P.mat '1 3\n1 2 3\n' "$cubic" 'markov: P.mat: 3 columns, P.lat has 4'
-
-# Tables at fault, each with its place.
-refuses '2 4\n1 -2 1 0\n0 1 -2\n' 'markov: P.lat: line 4, byte 20: 7 of 8 entries'
-refuses '2 4\n1 -2 1 0\n0 1 -2 1\nx\n' 'markov: P.lat: line 4, byte 22: text after the last entry'
-refuses '1 2\n9223372036854775808 -1\n' 'markov: P.lat: line 2, byte 4: number out of range'
-refuses '1 2\n1 -9223372036854775808\n' 'markov: P.lat: line 2, byte 6: number out of range'
-refuses '1 513\n0\n' 'markov: P.lat: line 1, byte 2: more than 512 columns'
-refuses '4097 1\n0\n' 'markov: P.lat: line 1, byte 0: more than 4096 rows'
-refuses '-1 2' 'markov: P.lat: line 1, byte 0: not a number'
-refuses '1 2\n1 +-1\n' 'markov: P.lat: line 2, byte 6: not a number'
-refuses '2\n' 'markov: P.lat: line 2, byte 2: 1 of 2 header numbers'
-refuses_with P.mat '1 4\n1 1 1 2147483648\n' "$cubic" 'markov: P.mat: line 2, byte 10: number out of range'
-refuses_with P.grade '1 4\n1 1 1\n' "$cubic" 'markov: P.grade: line 3, byte 10: 3 of 4 entries'
+# A status of each number that a small file can have.
+fresh
+ends 'two projects' 1 "$usage" P Q
+ends 'no words' 1 "$usage"
+ends 'a word that is no text' 1 "$usage" $'P\xff'
+ends 'no P.lat' 2 'markov: P.lat: not there' P
+given P.mar '7 7\nan older answer\n'
+ends 'no P.lat under an older answer' 2 'markov: P.lat: not there' P
+given P.lat '2 4\n1 4611686018427387905 0 -4611686018427387906\n1 -4611686018427387905 4611686018427387905 -1\n'
+ends 'an entry leaves its range' 4 'markov: overflow in column 2: 4611686018427387905 - (1) * (-4611686018427387905)' P
+fresh
+given -P.lat '1 2\n2 -2\n'
+made -P.mar '1 2\n2 -2\n'
+ends 'a project like an option' 0 '' -- -P
 
 # Files that no table is meant to be, each refused in one line.
 refuses '' 'markov: P.lat: line 1, byte 0: 0 of 2 header numbers'
@@ -215,84 +157,65 @@ fresh
 long '' 67108864 '\n'
 ends '64 MiB of line ends' 2 'markov: P.lat: line 67108865, byte 67108864: 0 of 2 header numbers' P
 
-# A move that is too large: no file is made.
-fresh
-given P.lat '2 4\n1 4611686018427387905 0 -4611686018427387906\n1 -4611686018427387905 4611686018427387905 -1\n'
-given P.mar '7 7\nan older answer\n'
-ends 'an entry leaves its range' 4 "$overflow" P
-
-fresh
-ends 'no P.lat' 2 'markov: P.lat: not there' P
-given P.mar '7 7\nan older answer\n'
-ends 'no P.lat under an older answer' 2 'markov: P.lat: not there' P
-
-faulty
-faulty P Q
-faulty ''
-faulty --help
-faulty -x
-faulty -x P
-faulty --
-faulty -- ''
-faulty -- P Q
-faulty $'P\xff'
-
-names P P
-names P P --
-names P -- P
-names -P -- -P
-names - -
-
 # A file of 64 MiB, and one that is a byte longer.
 fresh
-{ printf '0 4'; head -c 67108861 /dev/zero | tr '\0' ' '; } >"$folder/P.lat"
-stays P.lat
+long '0 4' 67108861 ' '
 made P.mar '0 4\n'
 ends '67108864 bytes' 0 '' P
 fresh
-{ printf '0 4'; head -c 67108862 /dev/zero | tr '\0' ' '; } >"$folder/P.lat"
-stays P.lat
+long '0 4' 67108862 ' '
 ends '67108865 bytes' 2 'markov: P.lat: more than 67108864 bytes' P
 
-# Files that fail: a folder that is to be read, one that the answer is to replace, and one where the answer is made.
+# Files that fail: a folder or a link to itself that is to be read, and a folder that the answer is to replace.
 fresh
 mkdir "$folder/P.lat"
 stays P.lat
-ends 'P.lat is a folder' 3 'markov: a file or stream failed' P
+ends 'P.lat is a folder' 3 "$failed_line" P
 for beside in P.mat P.grade; do
     fresh
     given P.lat '1 2\n2 -2\n'
     mkdir "$folder/$beside"
     stays "$beside"
-    ends "$beside is a folder" 3 'markov: a file or stream failed' P
+    ends "$beside is a folder" 3 "$failed_line" P
 done
 fresh
 ln -s P.lat "$folder/P.lat"
 stays P.lat
-ends 'P.lat is a link to itself' 3 'markov: a file or stream failed' P
+ends 'P.lat is a link to itself' 3 "$failed_line" P
 fresh
 given P.lat '1 2\n2 -2\n'
 mkdir "$folder/P.mar"
 printf 'kept\n' >"$folder/P.mar/file"
 stays P.mar
-ends 'P.mar is a folder' 3 'markov: a file or stream failed' P
+ends 'P.mar is a folder' 3 "$failed_line" P
+
+# What has the name of the file that the answer is made in, as a run that was killed leaves it, stays, and the answer is made in one
+# beside it; but a hundred of them are too many.
+fresh
+given P.lat '1 2\n2 -2\n'
+given P.mar.part 'mine\n'
+made P.mar '1 2\n2 -2\n'
+ends 'P.mar.part is a file' 0 '' P
 fresh
 given P.lat '1 2\n2 -2\n'
 mkdir "$folder/P.mar.part"
 printf 'kept\n' >"$folder/P.mar.part/file"
 stays P.mar.part
-ends 'P.mar.part is a folder' 3 'markov: a file or stream failed' P
+given P.mar.part2 'mine\n'
+made P.mar '1 2\n2 -2\n'
+ends 'P.mar.part is a folder and P.mar.part2 a file' 0 '' P
 fresh
 given P.lat '1 2\n2 -2\n'
 given P.mar.part 'mine\n'
-ends 'P.mar.part is a file' 3 'markov: a file or stream failed' P
+for number in $(seq 2 100); do given "P.mar.part$number" 'mine\n'; done
+ends 'every name of a part is taken' 3 "$failed_line" P
 
 # An answer of more than 1024 bytes, of which the first 1024 are written.
 fresh
 given P.lat "1 512\n$(yes '1000 -1000' | head -n 256)\n"
 given P.mar '7 7\nan older answer\n'
 limit=1
-ends 'the answer finds no room' 3 'markov: a file or stream failed' P
+ends 'the answer finds no room' 3 "$failed_line" P
 limit=
 
 # Standard error that takes nothing.
@@ -304,6 +227,63 @@ mkdir "$folder/P.lat"
 stays P.lat
 ends 'P.lat is a folder, and no line' 3 '' P
 errors=$work/err
+
+# A file that may not be read, or a folder that may not be written, for a user who isn't root.
+if [ "$(id -u)" -ne 0 ] || command -v setpriv >/dev/null; then
+    [ "$(id -u)" -ne 0 ] || as=(setpriv --reuid 65534 --regid 65534 --clear-groups)
+    fresh
+    given P.lat '1 2\n2 -2\n'
+    made P.mar '1 2\n2 -2\n'
+    ends 'another user' 0 '' P
+    fresh
+    given P.lat '1 2\n2 -2\n'
+    chmod 000 "$folder/P.lat"
+    ends 'P.lat may not be read' 3 "$failed_line" P
+    for beside in P.mat P.grade; do
+        fresh
+        given P.lat '1 2\n2 -2\n'
+        given "$beside" '1 2\n1 1\n'
+        chmod 000 "$folder/$beside"
+        ends "$beside may not be read" 3 "$failed_line" P
+    done
+    fresh
+    given P.lat '1 2\n2 -2\n'
+    given P.mar '7 7\nan older answer\n'
+    chmod 555 "$folder"
+    if [ "$(id -u)" -eq 0 ]; then chown 65534 "$folder"; fi
+    ends 'nothing may be made' 3 "$failed_line" P
+    chmod 755 "$folder"
+    as=()
+else
+    echo 'setpriv is not there: no run as another user'
+fi
+
+# Runs that are killed, some as soon as the part file is there and the others at any moment: an older answer stays or the new one
+# stands whole, and the next run answers, whatever was left.
+for turn in $(seq 1 24); do
+    fresh
+    cp "$examples/threeway/threeway.lat" "$folder/P.lat"
+    stays P.lat
+    printf '7 7\nan older answer\n' >"$folder/P.mar"
+    (cd "$folder" && exec "$program" P) </dev/null >/dev/null 2>&1 &
+    child=$!
+    if [ $((turn % 2)) -eq 0 ]; then
+        sleep "0.$((RANDOM % 30 + 100))"
+    else
+        until [ -e "$folder/P.mar.part" ] || ! kill -0 "$child" 2>/dev/null; do :; done
+    fi
+    kill -KILL "$child" 2>/dev/null
+    wait "$child" 2>/dev/null
+    if ! cmp -s "$folder/P.mar" "$examples/threeway/threeway.mar"; then
+        printf '7 7\nan older answer\n' >"$work/older"
+        cmp -s "$folder/P.mar" "$work/older" || { failed=$((failed + 1)); echo "FAILED a killed run: P.mar is neither answer"; }
+    fi
+    [ ! -e "$folder/P.mar.part" ] || stays P.mar.part
+    rm -rf "$work/want.P.mar"
+    cp "$examples/threeway/threeway.mar" "$work/want.P.mar"
+    wanted+=(P.mar)
+    ends "the run after a killed one, $turn" 0 '' P
+done
 
 echo "$passed passed, $failed failed"
 [ "$failed" -eq 0 ]

@@ -96,12 +96,6 @@ pub none_counted : {T : Type 0} (a b c : State) (n : ℕ) (result : Result T Des
     → (IsErrOf result desk.Failed → ⊥) → c.faults ≡ a.faults
 none_counted a b c n result same cause not_failed = cause.quiet not_failed ∙ ap (λ (s : State). s.faults) same
 
--- what a read gave, since the load began
-pub given_since : (a b c : State) (n m : ℕ) → b ≡ record a { given = n } → c ≡ record b { given = m; faults = c.faults } → c ≡ record a { given = c.given; faults = c.faults }
-given_since a b c n m first then =
-    let here : c ≡ record a { given = m; faults = c.faults } = then ∙ ap (λ (s : State). record s { given = m; faults = c.faults }) first in
-    here ∙ ap (λ k. record a { given = k; faults = c.faults }) (sym (ap (λ (s : State). s.given) then))
-
 -- only what was given changed, where no fault was counted
 pub given_more : (a b c : State) (n m : ℕ) → b ≡ record a { given = n } → c ≡ record b { given = m; faults = c.faults } → c.faults ≡ a.faults → c ≡ record a { given = m }
 given_more a b c n m first then same =

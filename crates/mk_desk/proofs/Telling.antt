@@ -1,5 +1,5 @@
 -- Changes of a folder that tells what it holds, one after another, and the faults behind them.
-use Rattle.std.proofs.Common.{◌≡◌, ℕ, ◌+◌, ◌≤◌, List, ◌++◌, take, drop, Option, Some, None, Result, IsErrOf, arith, refl, ap, sym, subst, ◌∙◌, append_assoc}
+use Rattle.std.proofs.Common.{◌≡◌, ℕ, ◌+◌, List, ◌++◌, take, drop, Option, Some, None, Result, IsErrOf, arith, ap, sym, subst, ◌∙◌, append_assoc}
 use Rattle.std.proofs.Math.Seq.{take-add}
 use Rattle.mk_desk.specs.Folders.{Desk, State, HasCause, OnlyFaultsRose, WhereTold, Rose, said}
 use Rattle.mk_desk.specs.declared.folder.DeskFault.{DeskFault}
@@ -32,14 +32,6 @@ where_told_same (Some x) P p = p x
 pub nothing_rose : {T : Type 0} (a b : State) (result : Result T DeskFault) → OnlyFaultsRose a b → HasCause Failed a b result → (IsErrOf result Failed → ⊥) → b ≡ a
 nothing_rose a b result only cause not_failed = only ∙ ap (λ n. record a { faults = n }) (cause.quiet not_failed)
 
--- where nothing changed, only the faults may have risen
-pub none_rose : (a b : State) → b ≡ a → OnlyFaultsRose a b
-none_rose a b same = rw same refl
-
--- what a call changed, said from an equal state
-pub rose_from : (a b c : State) → b ≡ a → OnlyFaultsRose b c → OnlyFaultsRose a c
-rose_from a b c same only = only ∙ ap (λ (s : State). record s { faults = c.faults }) same
-
 -- a call's cause, said from a state of as many faults
 pub cause_from : {T E : Type 0} {failure : E} (a b c : State) (result : Result T E) → b.faults ≡ a.faults → HasCause failure b c result → HasCause failure a c result
 cause_from a b c result same cause = record {
@@ -49,8 +41,8 @@ cause_from a b c result same cause = record {
 }
 
 -- an answer that is not that failure, where no fault was counted
-pub no_fault : {T E : Type 0} {failure : E} (a b : State) (result : Result T E) → b.faults ≡ a.faults → (IsErrOf result failure → ⊥) → HasCause failure a b result
-no_fault a b result same not_failed = record {
+pub no_failure : {T E : Type 0} {failure : E} (a b : State) (result : Result T E) → b.faults ≡ a.faults → (IsErrOf result failure → ⊥) → HasCause failure a b result
+no_failure a b result same not_failed = record {
   later = omega arith;
   failed = λ failed. absurd (not_failed failed);
   quiet = λ _. same;

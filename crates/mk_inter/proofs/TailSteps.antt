@@ -102,7 +102,12 @@ module _ (basis : BasisView) (s : IsSaturated basis) (index place : ℕ) (rest b
   pub step_fault : (fault : OverflowAt) → IsOverflow rest.entries by.entries times fault → IsTailFault basis (Overflow index place rest fault)
   step_fault fault f = record {
     of_list = omega (arith, step.of_list, length-vectors_of basis.moves);
+    pair = refl;
+    place = place;
+    by = refl;
     within = omega (arith, step.within, length-vectors_of basis.moves);
+    from = rest.entries;
+    operand = refl;
     reached = step.reduced.reached;
     count = taken.count;
     some = taken.some;

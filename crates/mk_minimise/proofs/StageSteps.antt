@@ -3,9 +3,9 @@ use Rattle.std.proofs.Common.{◌≡◌, ℕ, ◌+◌, ◌≤◌, ◌<◌, List,
 use Rattle.std.proofs.lemmas.List.{map-append, length_push, take-append-drop}
 use Rattle.std.proofs.lemmas.List.Elements.{All-push, All-contains}
 use Rattle.std.proofs.lemmas.Option.{slice_get_within}
-use Rattle.mk_model.specs.CoreStates.{Pair, move_at, pair_of, IsPairOf, stop_at}
+use Rattle.mk_model.specs.CoreStates.{move_at, pair_of, IsPairOf, stop_at}
 use Rattle.mk_model.specs.Orders.{lead}
-use Rattle.mk_model.specs.Overflows.{IsGenuineOverflow}
+use Rattle.mk_model.specs.Overflows.{IsGenuineOverflow, IsPairOfWeight}
 use Rattle.mk_model.proofs.Journals.{IsGenuineOverflow-append}
 use Rattle.mk_move.specs.Moves.{Weighed}
 use Rattle.mk_move.specs.MoveLists.{BasisView, BelongsTo, vector_of, vectors_of}
@@ -14,17 +14,17 @@ use Rattle.mk_inter.specs.Tails.{IsReducedList}
 use Rattle.mk_minimise.specs.declared.minimal.MinimiseFault.{MinimiseFault}
 use Rattle.mk_minimise.specs.declared.minimal.MinimiseFault.TheVariants.{Memory, Overflow}
 use Rattle.mk_minimise.specs.declared.overlaps.Overlap.{Overlap}
-use Rattle.mk_minimise.specs.Minimal.{IsPairOfDegree, IsPairFault, IsMinimiseFault}
+use Rattle.mk_minimise.specs.Minimal.{IsPairFault, IsMinimiseFault}
 use Rattle.mk_minimise.specs.Overlaps.{IsOverlap, AreOverlaps, AreOfWeight}
 use Rattle.mk_minimise.specs.Stages.{weight_at, IsFront, IsWeightRun, HasLead, TellsLeast, AreChosen}
 use Rattle.mk_minimise.proofs.ChosenMoves.{chosen_more, chosen_skip}
 use Rattle.mk_minimise.proofs.LowerFronts.{member_at, vectors_are, overlap_pair, pair_weighs}
 
 -- ---- the next move of a run
--- chosen from the moves before a place, with their columns, and no more than they are
+-- chosen from the moves before a place, each belongs to the basis, and no more than they are
 pub record IsChoosing (basis : BasisView) (place : ℕ) (items : List Weighed) : Type 0 where
   pub chosen : AreChosen (length basis.grading) basis.grading (vectors_of basis.moves) place (vectors_of items)
-  pub columns : All (λ m. length m.entries ≡ length basis.grading) items
+  pub belongs : All (BelongsTo basis.priority basis.grading) items
   pub few : length items ≤ place
 
 module _ (basis : BasisView) (h : IsReducedList basis) (start end : ℕ) (run : IsWeightRun basis start end) (links : List Weighed)
@@ -51,7 +51,7 @@ module _ (basis : BasisView) (h : IsReducedList basis) (start end : ℕ) (run : 
       subst (IsChoosing basis (place + 1)) (sym e)
       (record {
         chosen = subst (AreChosen (length basis.grading) basis.grading (vectors_of basis.moves) (place + 1)) same more;
-        columns = All-push (λ m. length m.entries ≡ length basis.grading) items m choosing.columns (belongs.columns ∙ h.kept.columns);
+        belongs = All-push (BelongsTo basis.priority basis.grading) items m choosing.belongs belongs;
         few = omega (arith, choosing.few, length_push items m);
       })
 
@@ -60,7 +60,7 @@ module _ (basis : BasisView) (h : IsReducedList basis) (start end : ℕ) (run : 
       let steps = tells.others (move_at (vectors_of basis.moves) place) here (run.same place from to) (subst (λ x. HasLead (vectors_of links) (lead x)) (sym row_is) has) in
       record {
         chosen = chosen_skip (length basis.grading) basis.grading (vectors_of basis.moves) h.reduced.ascending place row_within (vectors_of items) choosing.chosen steps;
-        columns = choosing.columns;
+        belongs = choosing.belongs;
         few = omega (arith, choosing.few);
       }
 
@@ -76,22 +76,21 @@ module _ (basis : BasisView) (h : IsReducedList basis) (lower : BasisView) (fron
   abbrev rows : List (List ℤ)
   rows = vectors_of basis.moves
 
-  of_degree : (i j : ℕ) → pair_of i j ≡ pair_of pair.first pair.second → IsPairOfDegree basis.grading rows i j
-  of_degree i j e =
-      subst (λ (p : Pair). IsPairOfDegree basis.grading rows p.first p.second) (sym e)
+  of_weight : (i j : ℕ) → pair_of i j ≡ pair_of pair.first pair.second → IsPairOfWeight basis.grading rows (pair_of i j)
+  of_weight i j e =
+      subst (IsPairOfWeight basis.grading rows) (sym e)
       (record {
-        ordered = o.ordered;
-        within = o.within;
+        of_list = record { ordered = o.ordered; within = o.within };
         overlap = o.overlap;
         move = move_at rows (length lower.moves);
         member = member_at basis h (length lower.moves) more;
-        degree = pair_weighs basis h lower front more pair o weighs;
+        same = pair_weighs basis h lower front more pair o weighs;
       })
 
   pub pair_fault_is : (fault : MinimiseFault) → IsPairFault (vectors_of lower.moves) (pair_of pair.first pair.second) fault → IsMinimiseFault basis fault
   pair_fault_is Memory f = tt
   pair_fault_is (Overflow i j by operand at) (e, genuine) = (
-    of_degree i j e,
+    of_weight i j e,
     subst (λ (moves : List (List ℤ)). IsGenuineOverflow moves (stop_at (pair_of i j) by (vector_of operand) at.column at.left at.times at.right))
         (ap (λ xs. xs ++ drop (length lower.moves) rows) (vectors_are basis h lower front more) ∙ take-append-drop (length lower.moves) rows)
         (IsGenuineOverflow-append (vectors_of lower.moves) (drop (length lower.moves) rows) _ (subst (IsPairOf (vectors_of lower.moves)) (sym e) (overlap_pair basis h lower front more pair o weighs)) genuine),

@@ -1,6 +1,7 @@
 ghost use Rattle.std.specs.Prelude.{◌≡◌, ◌<◌, ◌≤◌, IfOk, IfErr, List, ℤ, ◌≤ℤ◌, length, All, Contains, slice_get, Some};
 ghost use Rattle.mk_model.specs.Bases.{IsAnswer};
-ghost use Rattle.mk_move.specs.MoveLists.{lattice_spanned, vectors_of};
+ghost use Rattle.mk_move.specs.Moves.{IsGraded};
+ghost use Rattle.mk_move.specs.MoveLists.{lattice_spanned, BelongsTo, vectors_of};
 ghost use Rattle.mk_model.specs.Orders.{lead};
 ghost use Rattle.mk_model.specs.Vectors.{weight};
 ghost use Rattle.mk_inter.specs.Tails.{IsReducedList};
@@ -99,7 +100,8 @@ impl MoveList for MinimalList {
     }
 }
 
-/// The essential moves of the lattice that a reduced basis spans, ascending by move order. The grading is the basis's.
+/// The essential moves of the lattice that a reduced basis spans, ascending by move order, each with the weight of its lead. The
+/// grading is the basis's.
 /// (Sturmfels, chapter 5: minimal generators)
 pub fn minimise(
     alloc: Global,
@@ -109,6 +111,7 @@ pub fn minimise(
     requires { grading.now ≡ basis.now.grading }
     ensures answer { IfOk result (λ list. IsAnswer (lattice_spanned basis.now) (vectors_of list.moves)) }
     ensures columns { IfOk result (λ list. list.columns ≡ length basis.now.grading) }
+    ensures graded { IfOk result (λ list. All (IsGraded basis.now.grading) list.moves) }
     ensures refused { IfErr result (IsMinimiseFault basis.now) }
 {
     let moves = basis.basis();
@@ -125,7 +128,7 @@ fn chosen_of(alloc: Global, basis: &Basis, overlaps: &[Overlap]) -> Result<Vec<M
     requires reduced { IsReducedList basis.now }
     requires overlaps { AreOverlaps basis.now.grading (vectors_of basis.now.moves) overlaps.now }
     ensures chosen { IfOk result (λ chosen. AreChosen (length basis.now.grading) basis.now.grading (vectors_of basis.now.moves) (length basis.now.moves) (vectors_of chosen.items)) }
-    ensures columns { IfOk result (λ chosen. All (λ m. length m.entries ≡ length basis.now.grading) chosen.items) }
+    ensures belongs { IfOk result (λ chosen. All (BelongsTo basis.now.priority basis.now.grading) chosen.items) }
     ensures few { IfOk result (λ chosen. length chosen.items ≤ length basis.now.moves) }
     ensures refused { IfErr result (IsMinimiseFault basis.now) }
 {

@@ -98,10 +98,10 @@ pub(crate) fn choose(
     requires links { All (BelongsTo basis.now.priority basis.now.grading) links.now }
     requires tells { TellsLeast (length basis.now.grading) basis.now.grading (vectors_of basis.now.moves) (weight_at basis.now start) (vectors_of links.now) }
     requires chosen { AreChosen (length basis.now.grading) basis.now.grading (vectors_of basis.now.moves) start (vectors_of chosen.old.items) }
-    requires columns { All (λ m. length m.entries ≡ length basis.now.grading) chosen.old.items }
+    requires belongs { All (BelongsTo basis.now.priority basis.now.grading) chosen.old.items }
     requires few { length chosen.old.items ≤ start }
     ensures chosen { OnOk result (AreChosen (length basis.now.grading) basis.now.grading (vectors_of basis.now.moves) end (vectors_of chosen.new.items)) }
-    ensures columns { OnOk result (All (λ m. length m.entries ≡ length basis.now.grading) chosen.new.items) }
+    ensures belongs { OnOk result (All (BelongsTo basis.now.priority basis.now.grading) chosen.new.items) }
     ensures few { OnOk result (length chosen.new.items ≤ end) }
 {
     for place in start..end {

@@ -13,7 +13,7 @@ use Rattle.mk_model.proofs.VectorExamples.{graded_by_ones}
 use Rattle.mk_model.proofs.SmallVectors.{oriented_by_test}
 use Rattle.mk_model.proofs.WalkExamples.{point_of_two}
 
-row_graded : (n : ℕ) (row : List ℤ) → length row ≡ n → weight (ones n) row ≡ pos 0 → HasGrading (lattice_of n (row ∷ []) (ones n))
+pub row_graded : (n : ℕ) (row : List ℤ) → length row ≡ n → weight (ones n) row ≡ pos 0 → HasGrading (lattice_of n (row ∷ []) (ones n))
 row_graded n row l e =
     graded_by_ones n (row ∷ []) (All-cons (λ row. length row ≡ n) row [] l (All-nil (λ row. length row ≡ n)))
     (All-cons (λ row. weight (ones n) row ≡ pos 0) row [] e (All-nil (λ row. weight (ones n) row ≡ pos 0)))

@@ -4,7 +4,7 @@ use Rattle.std.proofs.lemmas.Bool.{cases_lt}
 use Rattle.std.proofs.lemmas.Option.{none-some}
 use Rattle.mk_model.specs.CoreStates.{Pair, pair_of, Settle, CoreState, new_state, IsPairOf, IsSettled, IsLesser}
 use Rattle.mk_model.specs.CoreStates.Way.{Coprime, Zero, Place}
-use Rattle.mk_model.specs.Events.{with_claim, with_entry, IsClaim, IsSettling, Happens, HappenInTurn}
+use Rattle.mk_model.specs.Events.{with_claim, with_entry, IsClaim, IsSettling, Event, Happens, HappenInTurn}
 use Rattle.mk_model.specs.Events.Event.{Claims, Settles}
 use Rattle.mk_model.specs.Legal.{IsEnded}
 use Rattle.mk_model.specs.Worked.{cubic_top, cubic_second, placed_move, column_one, completed_moves, placing, reducing, skipping, begun_state}
@@ -25,7 +25,7 @@ two_settled = with_entry second_claimed 0 (pair_of 0 2) Zero completed_moves
 abbrev third_claimed : CoreState
 third_claimed = with_claim two_settled 0 (pair_of 1 2)
 
-abbrev all_settled : CoreState
+abbrev pub all_settled : CoreState
 all_settled = with_entry third_claimed 0 (pair_of 1 2) Coprime completed_moves
 
 abbrev two_without : List (Option Pair)
@@ -122,7 +122,7 @@ third_claim = record {
 third_settling : IsSettling 4 column_one third_claimed 0 Coprime all_settled
 third_settling = record { pair = pair_of 1 2; claimed = refl; moves = completed_moves; settled = (disjoint, refl); changed = refl }
 
-ended : IsEnded all_settled
+pub ended : IsEnded all_settled
 ended = record { all_settled = λ pair h. which pair h (cases_lt pair.second 2) (cases_lt pair.first 1); none_claimed = no_claims }
   where
     which : (pair : Pair) → IsPairOf completed_moves pair → (pair.second < 2) ⊎ (2 ≤ pair.second) → (pair.first < 1) ⊎ (1 ≤ pair.first) → IsSettled (placing ∷ reducing ∷ skipping ∷ []) pair
@@ -132,12 +132,14 @@ ended = record { all_settled = λ pair h. which pair h (cases_lt pair.second 2) 
     which pair h (inr l) (inr k) =
         settled_third placing reducing skipping [] pair (same_pair pair 1 2 (omega (arith, h.ordered, h.within, k, l)) (omega (arith, h.within, l)))
 
+abbrev pub completion_events : List Event
+completion_events = Claims 0 ∷ Settles 0 (Place 2) ∷ Claims 0 ∷ Settles 0 Zero ∷ Claims 0 ∷ Settles 0 Coprime ∷ []
+
+pub completion_happens : HappenInTurn 4 column_one begun_state completion_events all_settled
+completion_happens = (claimed, first_claim cubic_top cubic_second 3, (one_settled, first_settling, (second_claimed, second_claim, (two_settled, second_settling, (third_claimed, third_claim, (all_settled, third_settling, refl))))))
+
 pub until_ended : (after : CoreState) × HappenInTurn 4 column_one begun_state (Claims 0 ∷ Settles 0 (Place 2) ∷ Claims 0 ∷ Settles 0 Zero ∷ Claims 0 ∷ Settles 0 Coprime ∷ []) after × IsEnded after
-until_ended = (
-  all_settled,
-  (claimed, first_claim cubic_top cubic_second 3, (one_settled, first_settling, (second_claimed, second_claim, (two_settled, second_settling, (third_claimed, third_claim, (all_settled, third_settling, refl)))))),
-  ended,
-)
+until_ended = (all_settled, completion_happens, ended)
 
 -- with the one pair claimed there is none left to claim
 pub none_left : (after : CoreState) → ¬ (Happens 4 column_one claimed (Claims 1) after)

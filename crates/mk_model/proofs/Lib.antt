@@ -25,6 +25,8 @@ pub mod StarLaws
 pub mod DivisorWeights
 pub mod ReducedLaws
 pub mod MoveOrder
+pub mod BookLaws
+pub mod OneRowStops
 pub mod TheAnswer
 pub mod Components
 pub mod FiniteFibres
@@ -39,6 +41,7 @@ pub mod EndedStates
 pub mod JournalExamples
 pub mod OverflowExamples
 pub mod EventExamples
+pub mod StateExamples
 pub mod OrderTests
 pub mod VectorExamples
 pub mod GradingExamples
@@ -47,6 +50,7 @@ pub mod TokenExamples
 pub mod PairExamples
 pub mod ChainExamples
 pub mod HaltExamples
+pub mod BookExamples
 pub mod WalkExamples
 pub mod AnswerExamples
 pub mod TableExamples

@@ -1,22 +1,26 @@
 -- The pairs of the twisted cubic, and its rows up to columns.
-use Rattle.std.proofs.Common.{◌≡◌, ◌⊎◌, inl, inr, ℕ, zero, suc, ◌==◌, true, List, [], ◌∷◌, ℤ, pos, Contains, arith, refl}
+use Rattle.std.proofs.Common.{◌≡◌, ◌⊎◌, inl, inr, ℕ, zero, suc, ◌==◌, true, List, [], ◌∷◌, ℤ, pos, All, Contains, arith, refl, ⊎_elim}
+use Rattle.std.proofs.lemmas.Int.{ints}
 use Rattle.std.proofs.lemmas.Bool.{both_ways}
 use Rattle.std.proofs.lemmas.List.Elements.{All-nil, All-cons}
 use Rattle.std.proofs.lemmas.List.Kept.{AllPairs-cons}
-use Rattle.mk_model.specs.Vectors.{entry, combine, add, subtract, negate, positive_part}
+use Rattle.mk_model.specs.Vectors.{entry, zeros, combine, add, subtract, negate, positive_part, weight}
 use Rattle.mk_model.specs.Lattices.{InLattice}
 use Rattle.mk_model.specs.Walks.Walk.{stay, step}
 use Rattle.mk_model.specs.Orders.{standard, IsOriented, lead}
 use Rattle.mk_model.specs.Reductions.{lcm}
 use Rattle.mk_model.specs.Reductions.Reaches.{here}
 use Rattle.mk_model.specs.Pairs.{AreOrientedMoves, IsPointBelow, AreDisjoint, JoinedBelow, EveryPairJoined}
-use Rattle.mk_model.specs.Saturation.{IsSupported, every_column, JoinedUpTo, ConnectedUpTo}
-use Rattle.mk_model.specs.Worked.{cubic_first, cubic_second, cubic_third, cubic_top, cubic_bottom, cubic_rows, cubic_turned, cubic_moves, cubic_lattice, cubic_outer, cubic_inner}
+use Rattle.mk_model.specs.CoreStates.{pair_of}
+use Rattle.mk_model.specs.Overflows.{IsPairOfWeight}
+use Rattle.mk_model.specs.Saturation.{IsSupported, every_column, JoinedUpTo, ConnectedUpTo, IsSignedRow}
+use Rattle.mk_model.specs.Worked.{cubic_first, cubic_second, cubic_third, cubic_top, cubic_bottom, cubic_rows, cubic_turned, cubic_moves, cubic_lattice, cubic_outer, cubic_inner, curve_first, curve_second, curve_third, curve_weights}
 use Rattle.mk_model.proofs.OrderTests.{is_below, Decides-is_below}
 use Rattle.mk_model.proofs.NormalForms.{All-from_contains}
 use Rattle.mk_model.proofs.Reducts.{joined_by_member, joined_by_disjoint}
 use Rattle.mk_model.proofs.RowConnections.{connected_by_rows}
-use Rattle.mk_model.proofs.SmallVectors.{all_two}
+use Rattle.mk_model.proofs.SmallVectors.{all_two, all_three}
+use Rattle.mk_model.proofs.VectorAlgebra.{entry-zeros}
 use Rattle.mk_model.proofs.TwistedCubic.{cubic_graded, cubic_member}
 use Rattle.mk_model.proofs.WalkExamples.{point_of_four}
 
@@ -60,6 +64,9 @@ below_top : (a b c d : ℕ) → is_below (standard 4) (pos a ∷ pos b ∷ pos c
     IsPointBelow 4 (standard 4) (pos 0 ∷ pos 2 ∷ pos 2 ∷ pos 0 ∷ []) (pos a ∷ pos b ∷ pos c ∷ pos d ∷ [])
 below_top a b c d e = record { point = point_of_four a b c d; below = (Decides-is_below (standard 4) (pos a ∷ pos b ∷ pos c ∷ pos d ∷ []) (pos 0 ∷ pos 2 ∷ pos 2 ∷ pos 0 ∷ [])).0 e }
 
+pub point_below : IsPointBelow 4 (standard 4) (pos 0 ∷ pos 2 ∷ pos 2 ∷ pos 0 ∷ []) (pos 1 ∷ pos 1 ∷ pos 1 ∷ pos 1 ∷ [])
+point_below = below_top 1 1 1 1 refl
+
 pub joined_below : JoinedBelow 4 (standard 4) cubic_turned cubic_first cubic_second
 unfolding lcm combine add subtract positive_part
 joined_below =
@@ -81,6 +88,17 @@ every_pair =
     R : List ℤ → List ℤ → Type 0
     R = JoinedBelow 4 (standard 4) cubic_moves
 
+-- ---- on the curve of weights 1, 2, 3
+pub of_weight : IsPairOfWeight curve_weights (curve_first ∷ curve_second ∷ curve_third ∷ []) (pair_of 0 1)
+unfolding lcm combine positive_part weight
+of_weight = record {
+  of_list = record { ordered = omega arith; within = omega arith };
+  overlap = λ d. ⊎_elim (λ e. omega (arith, ints, e)) (λ e. omega (arith, ints, e)) (d 0);
+  move = curve_third;
+  member = (2, omega arith, refl);
+  same = refl;
+}
+
 -- ---- up to columns: the walk (1 1 0 1), (1 0 2 0), (0 2 1 0)
 pub supported : IsSupported (λ c. c == 1) (pos 0 ∷ pos 1 ∷ pos 0 ∷ pos 0 ∷ [])
 supported zero e = refl
@@ -98,6 +116,11 @@ joined_up_to = record {
   joined = step (point_of_four 1 1 0 1) (cubic_bottom, (1, omega arith, refl), inr refl)
       (step (point_of_four 1 0 2 0) (cubic_top, (0, omega arith, refl), inr refl) (stay (point_of_four 0 2 1 0)));
 }
+
+pub signed_rows : All (IsSignedRow cubic_turned) (zeros 4 ∷ cubic_top ∷ cubic_bottom ∷ [])
+unfolding negate
+signed_rows =
+    all_three (IsSignedRow cubic_turned) (zeros 4) cubic_top cubic_bottom (inl (λ c. entry-zeros 4 c)) (inr (inr (0, omega arith, refl))) (inr (inr (1, omega arith, refl)))
 
 pub connected_up_to : ConnectedUpTo 4 cubic_rows every_column cubic_rows
 connected_up_to = connected_by_rows cubic_graded cubic_rows (λ row h. inr (inl h))

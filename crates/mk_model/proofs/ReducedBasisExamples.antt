@@ -5,7 +5,7 @@ use Rattle.mk_model.specs.Vectors.{negate, positive_part, negative_part, weight}
 use Rattle.mk_model.specs.Lattices.{ones}
 use Rattle.mk_model.specs.Walks.{Joined}
 use Rattle.mk_model.specs.Orders.{standard, lead, tail}
-use Rattle.mk_model.specs.ReducedBases.{IsLeast, LighterMoves, IsLeastOfComponent, IsStarMove}
+use Rattle.mk_model.specs.ReducedBases.{IsLeast, IsReducedMove, LighterMoves, IsLeastOfComponent, IsStarMove}
 use Rattle.mk_model.specs.Worked.{cubic_rows, cubic_third, cubic_moves, cubic_lattice, cubic_outer, cubic_inner}
 use Rattle.mk_model.proofs.OrderLaws.{IsOriented-lead_not_tail, IsBelow-not_same}
 use Rattle.mk_model.proofs.WalkLaws.{walk_stays}
@@ -19,6 +19,9 @@ use Rattle.mk_model.proofs.WalkExamples.{point_of_four}
 
 third_member : Contains cubic_moves cubic_third
 third_member = (1, omega arith, refl)
+
+pub reduced : IsReducedMove 4 cubic_rows cubic_third
+reduced = member_reduced cubic_graded cubic_basis cubic_third third_member
 
 pub least : IsLeast 4 cubic_rows cubic_outer
 unfolding negate positive_part negative_part

@@ -6,10 +6,10 @@ use Rattle.std.proofs.lemmas.List.Kept.{AllPairs-cons}
 use Rattle.std.proofs.lemmas.List.Elements.{All-nil, All-cons}
 use Rattle.mk_model.specs.Vectors.{zeros, combine, add, subtract, negate, scale, positive_part, negative_part}
 use Rattle.mk_model.specs.Orders.{standard, IsOriented, lead}
-use Rattle.mk_model.specs.Reductions.{Divides, Meet, Reduct, TailReduct, IsIrreducible, IsNormal}
+use Rattle.mk_model.specs.Reductions.{Divides, Reaches, IsDescent, Meet, IsReduction, Reduct, TailReduct, IsIrreducible, IsNormal}
 use Rattle.mk_model.specs.Reductions.Reaches.{here, go}
 use Rattle.mk_model.specs.Saturation.{divides, drop_redundant, NoneRedundant}
-use Rattle.mk_model.specs.Worked.{unit_move, double_move, cubic_first, cubic_second, cubic_third, cubic_turned, cubic_moves, cubic_outer}
+use Rattle.mk_model.specs.Worked.{cubic_top, unit_move, double_move, cubic_first, cubic_second, cubic_third, cubic_turned, cubic_moves, cubic_outer}
 use Rattle.mk_model.proofs.Divisors.{divides_true, Decides-divides}
 use Rattle.mk_model.proofs.Lists.{Contains-none}
 use Rattle.mk_model.proofs.SmallVectors.{all_two}
@@ -36,6 +36,19 @@ reduces_to_zero =
 pub drops_two : drop_redundant (double_move ∷ unit_move ∷ unit_move ∷ []) ≡ unit_move ∷ []
 unfolding divides subtract combine positive_part
 drops_two = refl
+
+-- steps down from (0 2 2 0)
+pub descent : IsDescent cubic_turned (pos 0 ∷ pos 2 ∷ pos 2 ∷ pos 0 ∷ []) (pos 1 ∷ pos 0 ∷ pos 3 ∷ pos 0 ∷ [])
+unfolding divides subtract combine positive_part
+descent = record { move = cubic_first; member = (0, omega arith, refl); divides = divides_true _ _ refl; below = refl }
+
+pub descents : Reaches (IsDescent cubic_turned) (pos 0 ∷ pos 2 ∷ pos 2 ∷ pos 0 ∷ []) (pos 1 ∷ pos 1 ∷ pos 1 ∷ pos 1 ∷ [])
+unfolding divides subtract combine positive_part
+descents = go descent (go (record { move = cubic_second; member = (1, omega arith, refl); divides = divides_true _ _ refl; below = refl }) here)
+
+pub reduction : IsReduction cubic_turned (pos 1 ∷ negsuc 2 ∷ pos 3 ∷ negsuc 0 ∷ []) cubic_top
+unfolding divides subtract add combine scale positive_part negative_part negate
+reduction = record { move = cubic_second; member = (1, omega arith, refl); times = 1; some = omega arith; taken_off = inl (divides_true _ _ refl, refl) }
 
 -- steps down that meet in (1 1 1 1)
 pub meet : Meet cubic_turned (pos 1 ∷ pos 0 ∷ pos 3 ∷ pos 0 ∷ []) (pos 0 ∷ pos 3 ∷ pos 0 ∷ pos 1 ∷ [])
@@ -68,3 +81,11 @@ apart =
     (all_two (AreApart cubic_second) cubic_third cubic_first (not_divides _ _ refl, not_divides _ _ refl) (not_divides _ _ refl, not_divides _ _ refl))
     (AllPairs-cons AreApart cubic_third (cubic_first ∷ [])
     (All-cons (AreApart cubic_third) cubic_first [] (not_divides _ _ refl, not_divides _ _ refl) (All-nil (AreApart cubic_third))) (λ i j d h l. absurd (omega arith)))
+
+pub divides_top : Divides (lead cubic_first) (pos 0 ∷ pos 2 ∷ pos 2 ∷ pos 0 ∷ [])
+unfolding divides subtract combine positive_part
+divides_top = divides_true _ _ refl
+
+pub no_divisor : ¬ (Divides (pos 1 ∷ pos 0 ∷ pos 0 ∷ pos 0 ∷ []) (pos 0 ∷ pos 2 ∷ pos 2 ∷ pos 0 ∷ []))
+unfolding divides subtract combine
+no_divisor = not_divides _ _ refl

@@ -1,4 +1,4 @@
--- Vectors of three and of four columns, by their entries.
+-- Vectors of two, three and four columns, by their entries.
 use Rattle.std.proofs.Common.{◌≡◌, ◌⊎◌, inl, inr, ℕ, zero, suc, true, List, [], ◌∷◌, length, ℤ, ◌≤ℤ◌, ◌<ℤ◌, All, arith, refl}
 use Rattle.std.proofs.lemmas.Int.{ints, by_lt_z}
 use Rattle.std.proofs.lemmas.List.Elements.{All-nil, All-cons}
@@ -6,6 +6,12 @@ use Rattle.mk_model.specs.Vectors.{entry}
 use Rattle.mk_model.specs.Orders.{IsOriented, lead, tail}
 use Rattle.mk_model.specs.Reductions.{Divides}
 use Rattle.mk_model.proofs.OrderTests.{is_below, Decides-is_below}
+
+pub two_entries : (x : List ℤ) → length x ≡ 2 → x ≡ entry x 0 ∷ entry x 1 ∷ []
+two_entries [] l = absurd (omega arith)
+two_entries (a ∷ []) l = absurd (omega arith)
+two_entries (a ∷ b ∷ []) l = refl
+two_entries (a ∷ b ∷ c ∷ x) l = absurd (omega arith)
 
 pub three_entries : (x : List ℤ) → length x ≡ 3 → x ≡ entry x 0 ∷ entry x 1 ∷ entry x 2 ∷ []
 three_entries [] l = absurd (omega arith)
@@ -21,6 +27,9 @@ four_entries (a ∷ b ∷ []) l = absurd (omega arith)
 four_entries (a ∷ b ∷ c ∷ []) l = absurd (omega arith)
 four_entries (a ∷ b ∷ c ∷ d ∷ []) l = refl
 four_entries (a ∷ b ∷ c ∷ d ∷ e ∷ x) l = absurd (omega arith)
+
+pub same_two : (a b c d : ℤ) → a ≡ c → b ≡ d → (a ∷ b ∷ []) ≡ c ∷ d ∷ []
+same_two a b c d h k = rw (h, k) refl
 
 pub same_three : (a b c d e f : ℤ) → a ≡ d → b ≡ e → c ≡ f → (a ∷ b ∷ c ∷ []) ≡ d ∷ e ∷ f ∷ []
 same_three a b c d e f h k l = rw (h, k, l) refl

@@ -6,7 +6,7 @@ use Rattle.mk_model.specs.declared.TheConstants.{ENTRY_MAX}
 use Rattle.mk_model.specs.Vectors.{entry, combine, add, scale, weight, IsPoint, IsEntry}
 use Rattle.mk_model.specs.Lattices.{lattice_of, combination, InLattice, HasGrading, ones, SameLattice}
 use Rattle.mk_model.specs.Worked.{unit_move, double_move, like_rows, like_second, steep_first, steep_second, steep_weights, steep_lattice}
-use Rattle.mk_model.proofs.SmallVectors.{two_factors, all_two}
+use Rattle.mk_model.proofs.SmallVectors.{same_two, two_factors, all_two}
 
 pub inside : InLattice 3 like_rows like_second
 unfolding combination combine add scale
@@ -26,9 +26,6 @@ unfolding combination combine add scale
 outside (f, e) =
     let d : pos 1 ≡ (f 0 *ℤ pos 2) +ℤ pos 0 = ap (λ v. entry v 0) e in
     omega (arith, ints, d)
-
-same_two : (a b c d : ℤ) → a ≡ c → b ≡ d → (a ∷ b ∷ []) ≡ c ∷ d ∷ []
-same_two a b c d h k = rw (h, k) refl
 
 pub same : SameLattice 2 (unit_move ∷ double_move ∷ []) (unit_move ∷ [])
 unfolding combination combine add scale

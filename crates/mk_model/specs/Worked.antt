@@ -1,9 +1,10 @@
 -- What the worked examples speak of, each thing named once.
-use Rattle.std.specs.Prelude.{◌≡◌, ℕ, List, [], ◌∷◌, ◌++◌, None, Some, codes, ℤ, pos, neg_ℤ, ◌-ℤ◌}
+use Rattle.std.specs.Prelude.{◌≡◌, ℕ, List, [], ◌∷◌, ◌++◌, None, Some, codes, ℤ, pos, neg_ℤ, ◌+ℤ◌, ◌-ℤ◌, int_div}
 use Rattle.mk_model.specs.declared.TheConstants.{ENTRY_MAX}
 use Rattle.mk_model.specs.Lattices.{Lattice, lattice_of, ones}
 use Rattle.mk_model.specs.Tables.{Grid, Limits}
-use Rattle.mk_model.specs.CoreStates.{Settle, pair_of, settle, CoreState, claim_of, halt_of, new_state, Halt, OverflowStop, stop_at}
+use Rattle.mk_model.specs.CoreStates.{Settle, pair_of, settle, CoreState, claim_of, halt_of, new_state, phase_state, Halt, OverflowStop, stop_at}
+use Rattle.mk_model.specs.Books.{PlainPhase, PlainBook}
 use Rattle.mk_model.specs.CoreStates.Way.{Coprime, Zero, Place}
 
 -- ---- two columns: (1 -1), (2 -2) and (4 -4)
@@ -181,10 +182,15 @@ reducing = settle 0 (pair_of 0 2) Zero
 abbrev pub skipping : Settle
 skipping = settle 0 (pair_of 1 2) Coprime
 
--- it begins for two workers with a budget of 3 pairs and a limit of 3 moves; or with a limit of 2
+-- it begins for two workers with a budget of 3 pairs and a limit of 3 moves
 abbrev pub begun_state : CoreState
 begun_state = new_state start_moves 3 3 2
 
+-- when it is ended, without its workers
+abbrev pub ended_phase : CoreState
+ended_phase = phase_state 2 completed_moves (placing ∷ reducing ∷ skipping ∷ []) 3 3
+
+-- it begins with a limit of 2 moves
 abbrev pub narrow_state : CoreState
 narrow_state = new_state start_moves 3 2 2
 
@@ -225,3 +231,34 @@ step_moves =
 
 abbrev pub step_stop : OverflowStop
 step_stop = stop_at (pair_of 0 1) (Some 2) (Some step_from) 1 (ENTRY_MAX -ℤ pos 4) (pos 1) (neg_ℤ (pos 5))
+
+-- and the negative of the largest less 1, in a step on a tail by (0 1 -1)
+abbrev pub tail_heavy : List ℤ
+tail_heavy = int_div (ENTRY_MAX +ℤ pos 1) (pos 2) ∷ neg_ℤ (pos 1) ∷ neg_ℤ ENTRY_MAX ∷ []
+
+abbrev pub tail_moves : List (List ℤ)
+tail_moves = tail_heavy ∷ like_first ∷ []
+
+abbrev pub tail_stop : OverflowStop
+tail_stop = stop_at (pair_of 0 0) (Some 1) (Some tail_heavy) 2 (neg_ℤ ENTRY_MAX) (neg_ℤ (pos 1)) (neg_ℤ (pos 1))
+
+-- ---- books: of the lattice of (1 -1), whose phases have no pair
+abbrev pub unit_lattice : Lattice
+unit_lattice = lattice_of 2 (unit_move ∷ []) (ones 2)
+
+abbrev pub lone_phase : List ℕ → List ℤ → PlainPhase
+lone_phase list move = record { priority = list; start_length = 1; basis = move ∷ []; journal = [] }
+
+abbrev pub unit_book : PlainBook
+unit_book = record {
+  phases = lone_phase (0 ∷ 1 ∷ []) (neg_ℤ (pos 1) ∷ pos 1 ∷ []) ∷ lone_phase (1 ∷ 0 ∷ []) unit_move
+      ∷ lone_phase (1 ∷ 0 ∷ []) unit_move ∷ [];
+  reduced = Some (unit_move ∷ []);
+}
+
+-- and of the twisted cubic with a budget of 0 pairs: the phase of column 0 has settled none
+abbrev pub starved_book : PlainBook
+starved_book = record {
+  phases = record { priority = 0 ∷ 3 ∷ 2 ∷ 1 ∷ []; start_length = 2; basis = cubic_turned; journal = [] } ∷ [];
+  reduced = None;
+}

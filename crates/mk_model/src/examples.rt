@@ -15,18 +15,21 @@ ghost use Rattle.mk_model.specs.Tables.{is_space, tokens, IsCount, IsNumber, Gri
 ghost use Rattle.mk_model.specs.TableFaults.{line_of, HasFault};
 ghost use Rattle.mk_model.specs.TableFaults.{NoHeader, BadNumber, Rows, Columns, EntryRange, Missing, Trailing};
 ghost use Rattle.mk_model.specs.Texts.{move_text};
-ghost use Rattle.mk_model.specs.Reductions.{lcm, Meet, Reduct, TailReduct, IsIrreducible, IsNormal};
-ghost use Rattle.mk_model.specs.Pairs.{AreOrientedMoves, AreDisjoint, JoinedBelow, EveryPairJoined};
-ghost use Rattle.mk_model.specs.Saturation.{IsSupported, every_column, JoinedUpTo, ConnectedUpTo, drop_redundant, NoneRedundant};
-ghost use Rattle.mk_model.specs.CoreStates.{CoreState, pair_of, settle};
+ghost use Rattle.mk_model.specs.Reductions.{lcm, Divides, Reaches, IsDescent, Meet, IsReduction, Reduct, TailReduct, IsIrreducible, IsNormal};
+ghost use Rattle.mk_model.specs.Pairs.{AreOrientedMoves, IsPointBelow, AreDisjoint, JoinedBelow, EveryPairJoined};
+ghost use Rattle.mk_model.specs.Saturation.{IsSupported, every_column, without_column, JoinedUpTo, ConnectedUpTo};
+ghost use Rattle.mk_model.specs.Saturation.{IsSignedRow, divides, has_divisor, is_redundant, needed, drop_redundant, NoneRedundant};
+ghost use Rattle.mk_model.specs.CoreStates.{CoreState, pair_of, settle, difference, IsPairOf, IsLesser};
 ghost use Rattle.mk_model.specs.CoreStates.Way.{Coprime, Zero, Place};
 ghost use Rattle.mk_model.specs.CoreStates.Halt.{Overflow, Full, Memory};
-ghost use Rattle.mk_model.specs.Overflows.{IsGenuineOverflow};
+ghost use Rattle.mk_model.specs.Overflows.{IsGenuineOverflow, IsTailOverflow, IsPairOfWeight};
 ghost use Rattle.mk_model.specs.Events.{IsChain, Happens, HappenInTurn, with_claim};
 ghost use Rattle.mk_model.specs.Events.Event.{Claims, Settles, Halts};
-ghost use Rattle.mk_model.specs.Legal.{Replays, IsEnded};
+ghost use Rattle.mk_model.specs.Books.{lists_for, all_columns, BookIsComplete, BookIsUnderWay, HasStopped};
+ghost use Rattle.mk_model.specs.Books.PlainStop.{Budget};
+ghost use Rattle.mk_model.specs.Legal.{Replays, IsLegal, IsEnded};
 ghost use Rattle.mk_model.specs.Worked.{unit_move, double_move, fourfold_move, double_lattice};
-ghost use Rattle.mk_model.specs.Worked.{cubic_top, cubic_rows, cubic_lattice, cubic_first};
+ghost use Rattle.mk_model.specs.Worked.{cubic_top, cubic_bottom, cubic_rows, cubic_lattice, cubic_first};
 ghost use Rattle.mk_model.specs.Worked.{cubic_second, cubic_third, cubic_turned, cubic_moves};
 ghost use Rattle.mk_model.specs.Worked.{cubic_outer, cubic_inner, like_first, like_second, like_row};
 ghost use Rattle.mk_model.specs.Worked.{like_rows, like_lattice, like_moves, curve_first};
@@ -38,6 +41,8 @@ ghost use Rattle.mk_model.specs.Worked.{wide_limits, digit_limits, column_one, s
 ghost use Rattle.mk_model.specs.Worked.{completed_moves, placing, reducing, skipping, begun_state};
 ghost use Rattle.mk_model.specs.Worked.{narrow_state, far_moves, difference_stop, step_moves};
 ghost use Rattle.mk_model.specs.Worked.{step_stop, chain_moves, far_state, IsHalted};
+ghost use Rattle.mk_model.specs.Worked.{ended_phase, tail_moves, tail_stop, unit_lattice};
+ghost use Rattle.mk_model.specs.Worked.{unit_book, starved_book};
 
 /// Entries, sums, multiples, parts and weights of vectors; points, and the range of entries.
 pub fn vector_examples()
@@ -134,6 +139,7 @@ pub fn answer_examples()
 pub fn reduced_basis_examples()
     ensures of_twisted_cubic { IsReducedBasis cubic_lattice (cubic_second ∷ cubic_third ∷ cubic_first ∷ []) }
     ensures of_small_curve { IsReducedBasis curve_lattice (curve_first ∷ curve_second ∷ curve_third ∷ []) }
+    ensures reduced { IsReducedMove 4 cubic_rows cubic_third }
     ensures least { IsLeast 4 cubic_rows cubic_outer }
     ensures none_lighter { (v : List ℤ) → ¬ (LighterMoves cubic_lattice (pos 2) v) }
     ensures components { All (IsLeastOfComponent cubic_lattice) (cubic_inner ∷ cubic_outer ∷ []) }
@@ -184,35 +190,59 @@ pub fn text_examples()
     ensures none { move_text 4 [] ≡ codes "0 4" ++ 10 ∷ [] }
 {}
 
-/// On the twisted cubic: steps down that meet, `(1 -3 3 -1)` with the reduct 0, a reduct of a
-/// tail, what no lead divides and what is normal; and of the moves `(2 -2)`, `(1 -1)` and
-/// `(1 -1)` the one that is not redundant.
+/// On the twisted cubic: steps down from `(0 2 2 0)`, and steps down that meet; `(1 -3 3 -1)` with
+/// the reduct 0, and its first step, to `(1 -2 1 0)`; a reduct of a tail, what no lead divides, what
+/// is normal, and what divides another vector.
 pub fn reduction_examples()
+    ensures descent { IsDescent cubic_turned (pos 0 ∷ pos 2 ∷ pos 2 ∷ pos 0 ∷ []) (pos 1 ∷ pos 0 ∷ pos 3 ∷ pos 0 ∷ []) }
+    ensures descents { Reaches (IsDescent cubic_turned) (pos 0 ∷ pos 2 ∷ pos 2 ∷ pos 0 ∷ [])
+        (pos 1 ∷ pos 1 ∷ pos 1 ∷ pos 1 ∷ []) }
     ensures meet { Meet cubic_turned (pos 1 ∷ pos 0 ∷ pos 3 ∷ pos 0 ∷ []) (pos 0 ∷ pos 3 ∷ pos 0 ∷ pos 1 ∷ []) }
+    ensures reduction { IsReduction cubic_turned (pos 1 ∷ neg_ℤ (pos 3) ∷ pos 3 ∷ neg_ℤ (pos 1) ∷ []) cubic_top }
     ensures reduct { Reduct cubic_turned (pos 1 ∷ neg_ℤ (pos 3) ∷ pos 3 ∷ neg_ℤ (pos 1) ∷ []) (zeros 4) }
     ensures tail_reduct { TailReduct cubic_turned (pos 1 ∷ pos 1 ∷ neg_ℤ (pos 2) ∷ pos 0 ∷ [])
         (pos 1 ∷ pos 0 ∷ pos 0 ∷ neg_ℤ (pos 1) ∷ []) }
     ensures irreducible { IsIrreducible cubic_turned cubic_outer }
     ensures normal { IsNormal cubic_turned cubic_third }
-    ensures redundant { drop_redundant (double_move ∷ unit_move ∷ unit_move ∷ []) ≡ unit_move ∷ [] }
+    ensures divides { Divides (lead cubic_first) (pos 0 ∷ pos 2 ∷ pos 2 ∷ pos 0 ∷ []) }
+    ensures no_divisor { ¬ (Divides (pos 1 ∷ pos 0 ∷ pos 0 ∷ pos 0 ∷ []) (pos 0 ∷ pos 2 ∷ pos 2 ∷ pos 0 ∷ [])) }
+{}
+
+/// Of the moves `(2 -2)`, `(1 -1)` and `(1 -1)` the first and the last are redundant. Of the answer
+/// of the twisted cubic none is.
+pub fn redundancy_examples()
+    ensures divides_test { divides (pos 1 ∷ pos 0 ∷ []) (pos 2 ∷ pos 0 ∷ []) ≡ true }
+    ensures divisor { has_divisor double_move unit_move ≡ true }
+    ensures larger_lead { is_redundant [] double_move (unit_move ∷ unit_move ∷ []) ≡ true }
+    ensures first_of_two { is_redundant (double_move ∷ []) unit_move (unit_move ∷ []) ≡ false }
+    ensures second_of_two { is_redundant (double_move ∷ unit_move ∷ []) unit_move [] ≡ true }
+    ensures needed { needed (double_move ∷ []) (unit_move ∷ unit_move ∷ []) ≡ unit_move ∷ [] }
+    ensures left { drop_redundant (double_move ∷ unit_move ∷ unit_move ∷ []) ≡ unit_move ∷ [] }
     ensures apart { NoneRedundant cubic_moves }
 {}
 
 /// The oriented rows of the twisted cubic: their leads are disjoint, and a walk joins the two
-/// below the least common multiple of these. With `(-1 1 1 -1)` every pair is joined below.
+/// below the least common multiple of these. With `(-1 1 1 -1)` every pair is joined below. On the
+/// curve of weights 1, 2, 3 the leads `(2 0 0)` and `(1 1 0)` overlap, and `(2 1 0)` weighs 4, as
+/// `(0 2 0)` does.
 pub fn pair_examples()
     ensures multiple_of_leads { lcm (lead cubic_first) (lead cubic_second) ≡ (pos 0 ∷ pos 2 ∷ pos 2 ∷ pos 0 ∷ []) }
     ensures oriented_moves { AreOrientedMoves cubic_lattice (standard 4) cubic_turned }
+    ensures point_below { IsPointBelow 4 (standard 4) (pos 0 ∷ pos 2 ∷ pos 2 ∷ pos 0 ∷ [])
+        (pos 1 ∷ pos 1 ∷ pos 1 ∷ pos 1 ∷ []) }
     ensures disjoint { AreDisjoint (lead cubic_first) (lead cubic_second) }
     ensures joined_below { JoinedBelow 4 (standard 4) cubic_turned cubic_first cubic_second }
+    ensures of_weight { IsPairOfWeight curve_weights (curve_first ∷ curve_second ∷ curve_third ∷ []) (pair_of 0 1) }
     ensures every_pair { EveryPairJoined 4 (standard 4) cubic_moves }
 {}
 
 /// The rows of the twisted cubic join `(1 0 0 1)` and `(0 1 1 0)` once `(0 1 0 0)` is added, and
-/// are connected up to all columns.
+/// are connected up to all columns. They are the negatives of the moves as they are oriented.
 pub fn saturation_examples()
+    ensures removed { (without_column every_column 1 0 ≡ true) × (without_column every_column 1 1 ≡ false) }
     ensures supported { IsSupported (λ c. c == 1) (pos 0 ∷ pos 1 ∷ pos 0 ∷ pos 0 ∷ []) }
     ensures joined_up_to { JoinedUpTo 4 (λ c. c == 1) cubic_rows cubic_outer cubic_inner }
+    ensures signed_rows { All (IsSignedRow cubic_turned) (zeros 4 ∷ cubic_top ∷ cubic_bottom ∷ []) }
     ensures connected_up_to { ConnectedUpTo 4 cubic_rows every_column cubic_rows }
 {}
 
@@ -224,6 +254,19 @@ pub fn journal_examples()
     ensures exchanged { ¬ (Replays 4 column_one 3 [] start_moves (reducing ∷ placing ∷ skipping ∷ []) completed_moves) }
 {}
 
+/// Pairs of the start and their order; the difference of (0, 1); and the completion without its
+/// workers when it is ended, which is legal.
+pub fn state_examples()
+    ensures pair { IsPairOf start_moves (pair_of 0 1) }
+    ensures no_pair { ¬ (IsPairOf start_moves (pair_of 0 2)) }
+    ensures order { IsLesser (pair_of 0 1) (pair_of 0 2) × IsLesser (pair_of 0 2) (pair_of 1 2)
+        × IsLesser (pair_of 1 2) (pair_of 0 3) }
+    ensures difference { difference start_moves (pair_of 0 1) ≡ cubic_third }
+    ensures begun { IsLegal 4 column_one begun_state }
+    ensures legal { IsLegal 4 column_one ended_phase }
+    ensures ended { IsEnded ended_phase }
+{}
+
 /// Among `(1 1 -1 -1)`, `(1 -1 1 -1)` and `(-1 1 1 -1)` the pair (0, 1) is settled by a chain
 /// through the third move, once the other two pairs are, and not before.
 pub fn chain_examples()
@@ -232,11 +275,13 @@ pub fn chain_examples()
     ensures too_early { ¬ (IsChain chain_moves (settle 0 (pair_of 0 2) Zero ∷ []) (pair_of 0 1) 2) }
 {}
 
-/// Entries that leave the range: the largest less -1, in the difference of a pair; and the largest less
-/// 4, from which -5 is taken in a step of reduction.
+/// Entries that leave the range: the largest less -1, in the difference of a pair; the largest less 4,
+/// from which -5 is taken in a step of reduction; and the negative of the largest less 1, in a step on
+/// a tail.
 pub fn overflow_examples()
     ensures difference { IsGenuineOverflow far_moves difference_stop }
     ensures step { IsGenuineOverflow step_moves step_stop }
+    ensures tail_step { IsTailOverflow tail_moves 0 tail_stop }
 {}
 
 /// The same completion by events, with two workers, until it is ended; and while worker 0 has the
@@ -264,4 +309,15 @@ pub fn halt_examples()
         × IsHalted after (Overflow difference_stop) }
     ensures no_claim { (worker : ℕ) (after : CoreState) → ¬ (HappenInTurn 4 column_one begun_state
         (Claims 0 ∷ Halts 0 Memory ∷ Claims worker ∷ []) after) }
+{}
+
+/// The book of the lattice of `(1 -1)`: phases along the lists of the columns 0 and 1 and along the
+/// standard list, and the reduced basis. The book that begins. And the book of the twisted cubic
+/// that stops with a budget of 0 pairs.
+pub fn book_examples()
+    ensures lists { lists_for 4 (all_columns 4) ≡ (0 ∷ 3 ∷ 2 ∷ 1 ∷ []) ∷ (1 ∷ 3 ∷ 2 ∷ 0 ∷ []) ∷ (2 ∷ 3 ∷ 1 ∷ 0 ∷ [])
+        ∷ (3 ∷ 2 ∷ 1 ∷ 0 ∷ []) ∷ standard 4 ∷ [] }
+    ensures complete { BookIsComplete unit_lattice unit_book }
+    ensures begun { BookIsUnderWay cubic_lattice (record { phases = []; reduced = None }) }
+    ensures stopped { HasStopped cubic_lattice 0 starved_book (Budget 0) }
 {}

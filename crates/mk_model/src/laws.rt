@@ -134,13 +134,15 @@ pub fn join_chain()
     ensures chain { (lattice : Lattice) (priority : List ℕ) (moves : List (List ℤ)) (a b third : List ℤ) →
         AreOrientedMoves lattice priority moves → Contains moves a → Contains moves b → Contains moves third →
         Divides (lead third) (lcm (lead a) (lead b)) →
-        JoinedBelow lattice.columns priority moves a third → JoinedBelow lattice.columns priority moves b third → JoinedBelow lattice.columns priority moves a b }
+        JoinedBelow lattice.columns priority moves a third → JoinedBelow lattice.columns priority moves b third →
+        JoinedBelow lattice.columns priority moves a b }
     ensures zero_reduct { (lattice : Lattice) (priority : List ℕ) (moves : List (List ℤ)) (a b : List ℤ) →
         AreOrientedMoves lattice priority moves → Contains moves a → Contains moves b →
         Reduct moves (subtract b a) (zeros lattice.columns) → JoinedBelow lattice.columns priority moves a b }
     ensures member_reduct { (lattice : Lattice) (priority : List ℕ) (moves : List (List ℤ)) (a b r : List ℤ) →
         AreOrientedMoves lattice priority moves → Contains moves a → Contains moves b →
-        Reduct moves (subtract b a) r → Contains moves r ⊎ Contains moves (negate r) → JoinedBelow lattice.columns priority moves a b }
+        Reduct moves (subtract b a) r → Contains moves r ⊎ Contains moves (negate r) →
+        JoinedBelow lattice.columns priority moves a b }
     ensures either_order { (lattice : Lattice) (priority : List ℕ) (moves : List (List ℤ)) (a b : List ℤ) →
         AreOrientedMoves lattice priority moves → JoinedBelow lattice.columns priority moves a b →
         JoinedBelow lattice.columns priority moves b a }
@@ -156,12 +158,15 @@ pub fn conn_drop()
         ConnectedUpTo n rows columns moves → ConnectedUpTo n rows columns others }
     ensures completed_column { (lattice : Lattice) (i : ℕ) (priority : List ℕ) (columns : ℕ → Bool) (moves : List (List ℤ)) →
         AreOrientedMoves lattice (i ∷ priority) moves → EveryPairJoined lattice.columns (i ∷ priority) moves →
-        ConnectedUpTo lattice.columns lattice.rows columns moves → ConnectedUpTo lattice.columns lattice.rows (without_column columns i) moves }
+        ConnectedUpTo lattice.columns lattice.rows columns moves →
+        ConnectedUpTo lattice.columns lattice.rows (without_column columns i) moves }
     ensures joins_the_same { (lattice : Lattice) (priority : List ℕ) (moves : List (List ℤ)) →
         AreOrientedMoves lattice priority moves → EveryPairJoined lattice.columns priority moves →
-        (x y : List ℤ) → Joined lattice.columns (Members moves) x y → Joined lattice.columns (Members (drop_redundant moves)) x y }
+        (x y : List ℤ) → Joined lattice.columns (Members moves) x y →
+        Joined lattice.columns (Members (drop_redundant moves)) x y }
     ensures pairs_stay_joined { (lattice : Lattice) (priority : List ℕ) (moves : List (List ℤ)) →
-        AreOrientedMoves lattice priority moves → EveryPairJoined lattice.columns priority moves → EveryPairJoined lattice.columns priority (drop_redundant moves) }
+        AreOrientedMoves lattice priority moves → EveryPairJoined lattice.columns priority moves →
+        EveryPairJoined lattice.columns priority (drop_redundant moves) }
 {}
 
 /// A column leaves where a move, or its negative, has its negative part within the columns and is
@@ -170,7 +175,8 @@ pub fn conn_free()
     ensures { (lattice : Lattice) (columns : ℕ → Bool) (i : ℕ) (moves : List (List ℤ)) (u : List ℤ) →
         HasGrading lattice → All (InLattice lattice.columns lattice.rows) moves → Contains moves u ⊎ Contains moves (negate u) →
         IsSupported columns (negative_part u) → pos 1 ≤ℤ entry u i →
-        ConnectedUpTo lattice.columns lattice.rows columns moves → ConnectedUpTo lattice.columns lattice.rows (without_column columns i) moves }
+        ConnectedUpTo lattice.columns lattice.rows columns moves →
+        ConnectedUpTo lattice.columns lattice.rows (without_column columns i) moves }
 {}
 
 /// The moves of an answer join all nonnegative vectors that differ by the lattice.

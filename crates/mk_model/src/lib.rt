@@ -5,15 +5,18 @@
 //! or a worked example is the contract of a function without parameters.
 #![tactic(auto)]
 
+mod book_laws;
 mod examples;
 mod laws;
 mod plain;
 
+pub use book_laws::one_row_never_stops;
 pub use examples::{
-    answer_examples, chain_examples, event_examples, grading_examples, grading_fault_examples,
-    halt_examples, journal_examples, lattice_examples, order_examples, overflow_examples,
-    pair_examples, reduced_basis_examples, reduction_examples, saturation_examples, table_examples,
-    table_fault_examples, text_examples, token_examples, vector_examples, walk_examples,
+    answer_examples, book_examples, chain_examples, event_examples, grading_examples,
+    grading_fault_examples, halt_examples, journal_examples, lattice_examples, order_examples,
+    overflow_examples, pair_examples, reduced_basis_examples, reduction_examples,
+    redundancy_examples, saturation_examples, state_examples, table_examples, table_fault_examples,
+    text_examples, token_examples, vector_examples, walk_examples,
 };
 pub use laws::{
     answer_from_components, answer_has_the_essential_moves, answer_is_unique, answer_of_one_row,

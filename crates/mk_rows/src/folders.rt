@@ -1,8 +1,4 @@
-ghost use Rattle.std.specs.Prelude.{◌≤◌};
-
-use crate::runs::{
-    INDEPENDENCE, MANY, MARGINS, OLDER, assert_ending, assert_files, assert_unstopped, run,
-};
+use crate::runs::{INDEPENDENCE, MANY, MARGINS, NINE_MOVES, OLDER, OTHER, assert_run};
 use mk_run::Status;
 use std::alloc::AllocGlobal;
 use std::process::Abort;
@@ -10,87 +6,221 @@ use std::test::Fail;
 
 const FAILED: &str = "markov: a file or stream failed\n";
 
-// A run that takes so many calls, with each of them failing in turn, and with none.
-fn assert_each_call_matters(
-    rt: &(impl Abort + AllocGlobal),
-    chunk: usize,
-    calls: u64,
-) -> Result<(), Fail>
-    requires { 1 ≤ chunk }
-{
-    let given = ("P.lat", "1 2\n2 -2\n");
-    for failing in 1..=calls {
-        let ended = run(rt.alloc(), &["P"], &[given, OLDER], chunk, &[failing])?;
-        let case = format!(in rt.alloc(); "call {failing} of {chunk} bytes")?;
-        assert_ending(rt, &ended, Status::Folder, FAILED, &case);
-        assert_files(rt, &ended.folder, &[given, OLDER], &case);
-        assert_unstopped(rt, &ended, &case);
-        assert_eq!(rt; ended.folder.faults(), 1, "{case}");
-    }
-    let made = ("P.mar", given.1);
-    let ended = run(rt.alloc(), &["P"], &[given, OLDER], chunk, &[])?;
-    assert_ending(rt, &ended, Status::Done, "", "no call fails");
-    assert_files(rt, &ended.folder, &[given, made], "no call fails");
-    assert_eq!(rt; ended.folder.calls(), calls);
-    Ok(())
-}
+const SEGMENT: (&str, &str) = ("P.lat", "1 2\n2 -2\n");
 
-// To begin to read, to read nine bytes and the end, to look for a matrix and a grade, to begin to write, to write nine bytes in
-// two lines, and to end.
+const CUBIC: (&str, &str) = ("P.lat", "2 4\n1 -2 1 0\n0 1 -2 1\n");
+
+const TABLES: (&str, &str) = ("P.lat", INDEPENDENCE);
+
+const SUMS: (&str, &str) = ("P.mat", MARGINS);
+
+const WIDE: (&str, &str) = ("P.lat", "1 513\n0\n");
+
+const UNGRADED: (&str, &str) = ("P.lat", "1 2\n1 1\n");
+
+const SHORT: (&str, &str) = ("P.mat", "1 4\n1 2 3\n");
+
+const UNFIT: (&str, &str) = ("P.mat", "1 4\n1 2 3 5\n");
+
+const WORDED: (&str, &str) = ("P.grade", "1 x\n1 1\n");
+
+// Each call of a run fails in turn, and then the line that says so. The run begins to read, reads nine bytes and the end, looks
+// for a matrix and a grade, begins to write, writes nine bytes in two lines, and ends.
 #[test]
 fn each_call_fails_in_turn(rt: HostRuntime) -> Result<(), Fail> {
-    assert_each_call_matters(&rt, 1, 24)?;
-    assert_each_call_matters(&rt, MANY, 9)
-}
-
-// A call that fails ends the run, which says so: the first one, the second read of a lattice, and the second write of nine moves,
-// whose first line was written. With a matrix that is the tenth call.
-#[test]
-fn a_call_that_fails_is_the_last_but_one(rt: HostRuntime) -> Result<(), Fail> {
-    let cubic = [("P.lat", "2 4\n1 -2 1 0\n0 1 -2 1\n"), OLDER];
-    let independence = [("P.lat", INDEPENDENCE), ("P.mat", MARGINS), OLDER];
-    let rows = [
-        (cubic.as_slice(), 1, ""),
-        (cubic.as_slice(), 3, ""),
-        (independence.as_slice(), 10, "9 9\n"),
-    ];
-    for (files, failing, made) in rows {
-        let ended = run(rt.alloc(), &["P"], files, MANY, &[failing])?;
-        let case = format!(in rt.alloc(); "call {failing}")?;
-        assert_ending(&rt, &ended, Status::Folder, FAILED, &case);
-        assert_files(&rt, &ended.folder, files, &case);
-        assert_unstopped(&rt, &ended, &case);
-        assert_eq!(rt; ended.folder.made(), made.as_bytes(), "{case}");
-        assert_eq!(rt; ended.folder.calls(), failing.saturating_add(1), "{case}");
+    let files = [SEGMENT, OTHER, OLDER];
+    for (chunk, calls) in [(1, 24), (MANY, 9)] {
+        for failing in 1..=calls {
+            assert_run(
+                &rt,
+                &["P"],
+                &files,
+                chunk,
+                &[failing],
+                (Status::Folder, FAILED),
+                &files,
+            )?;
+        }
     }
     Ok(())
 }
 
-// A call that fails while a line is said cuts the line, and the status stays.
+// A run for `P` over these files, with this made and so many calls.
+fn assert_calls<'a>(
+    rt: &(impl Abort + AllocGlobal),
+    files: [(&'a str, &'a str); 3],
+    chunk: usize,
+    failing: [u64; 2],
+    wanted: (Status, &str),
+    made: &str,
+    calls: u64,
+) -> Result<(), Fail> {
+    let folder = assert_run(rt, &["P"], &files, chunk, &failing, wanted, &files)?;
+    assert_eq!(rt; folder.made(), made.as_bytes(), "{files:?}");
+    assert_eq!(rt; folder.calls(), calls, "{files:?}");
+    Ok(())
+}
+
+// Runs over a matrix or a grade that may be wrong, or where calls with these numbers fail: what is said, what the file being made
+// has, and how many calls there were. Each file is read as a table before the next is looked for, and all of them before a
+// grading is chosen: to read a file takes three calls, to look for one that isn't there one, to write a line or say it one. A
+// call that fails ends the run, and another says so; one that fails while a line is said cuts the line, and the status stays.
 #[test]
-fn a_line_is_cut(rt: HostRuntime) -> Result<(), Fail> {
-    let whole = "markov: P: no positive grading found\n";
+fn calls_have_their_order(rt: HostRuntime) -> Result<(), Fail> {
+    let no_lattice = "markov: P.lat: not there\n";
+    let no_table = "markov: P.lat: line 1, byte 2: more than 512 columns\n";
+    let no_matrix = "markov: P.mat: line 3, byte 10: 3 of 4 entries\n";
+    let no_grade = "markov: P.grade: line 1, byte 2: not a number\n";
+    let no_grading = "markov: P: no positive grading found\n";
     let no_end = "markov: P: no positive grading found";
-    let ungraded = "1 2\n1 1\n";
-    let graded = "1 2\n2 -2\n";
     let rows = [
-        (ungraded, MANY, [6, 6], Status::Input, ""),
-        (ungraded, MANY, [7, 7], Status::Input, whole),
-        (ungraded, 1, [13, 13], Status::Input, ""),
-        (ungraded, 1, [14, 14], Status::Input, "m"),
-        (ungraded, 1, [49, 49], Status::Input, no_end),
-        (ungraded, 1, [50, 50], Status::Input, whole),
-        (graded, MANY, [1, 2], Status::Folder, ""),
-        (graded, 1, [1, 3], Status::Folder, "m"),
+        (
+            [OTHER, SHORT, WORDED],
+            MANY,
+            [0, 0],
+            Status::Input,
+            no_lattice,
+            "",
+            2,
+        ),
+        (
+            [WIDE, SHORT, WORDED],
+            MANY,
+            [0, 0],
+            Status::Input,
+            no_table,
+            "",
+            4,
+        ),
+        (
+            [CUBIC, SHORT, WORDED],
+            MANY,
+            [0, 0],
+            Status::Input,
+            no_matrix,
+            "",
+            7,
+        ),
+        (
+            [CUBIC, UNFIT, WORDED],
+            MANY,
+            [0, 0],
+            Status::Input,
+            no_grade,
+            "",
+            10,
+        ),
+        (
+            [CUBIC, OTHER, WORDED],
+            MANY,
+            [0, 0],
+            Status::Input,
+            no_grade,
+            "",
+            8,
+        ),
+        (
+            [CUBIC, OTHER, OLDER],
+            MANY,
+            [1, 1],
+            Status::Folder,
+            FAILED,
+            "",
+            2,
+        ),
+        (
+            [CUBIC, OTHER, OLDER],
+            MANY,
+            [3, 3],
+            Status::Folder,
+            FAILED,
+            "",
+            4,
+        ),
+        (
+            [TABLES, SUMS, OLDER],
+            MANY,
+            [10, 10],
+            Status::Folder,
+            FAILED,
+            "9 9\n",
+            11,
+        ),
+        (
+            [UNGRADED, OTHER, OLDER],
+            MANY,
+            [6, 6],
+            Status::Input,
+            "",
+            "",
+            6,
+        ),
+        (
+            [UNGRADED, OTHER, OLDER],
+            MANY,
+            [7, 7],
+            Status::Input,
+            no_grading,
+            "",
+            6,
+        ),
+        (
+            [UNGRADED, OTHER, OLDER],
+            1,
+            [13, 13],
+            Status::Input,
+            "",
+            "",
+            13,
+        ),
+        (
+            [UNGRADED, OTHER, OLDER],
+            1,
+            [14, 14],
+            Status::Input,
+            "m",
+            "",
+            14,
+        ),
+        (
+            [UNGRADED, OTHER, OLDER],
+            1,
+            [49, 49],
+            Status::Input,
+            no_end,
+            "",
+            49,
+        ),
+        (
+            [UNGRADED, OTHER, OLDER],
+            1,
+            [50, 50],
+            Status::Input,
+            no_grading,
+            "",
+            49,
+        ),
+        (
+            [SEGMENT, OTHER, OLDER],
+            MANY,
+            [1, 2],
+            Status::Folder,
+            "",
+            "",
+            2,
+        ),
+        (
+            [SEGMENT, OTHER, OLDER],
+            1,
+            [1, 3],
+            Status::Folder,
+            "m",
+            "",
+            3,
+        ),
     ];
-    for (lattice, chunk, failing, status, said) in rows {
-        let files = [("P.lat", lattice), OLDER];
-        let ended = run(rt.alloc(), &["P"], &files, chunk, &failing)?;
-        let case = format!(in rt.alloc(); "calls {failing:?} of {chunk} bytes")?;
-        assert_ending(&rt, &ended, status, said, &case);
-        assert_files(&rt, &ended.folder, &files, &case);
+    for (files, chunk, failing, status, said, made, calls) in rows {
+        assert_calls(&rt, files, chunk, failing, (status, said), made, calls)?;
     }
-    let ended = run(rt.alloc(), &[], &[], MANY, &[1])?;
-    assert_ending(&rt, &ended, Status::Usage, "", "no words");
     Ok(())
 }

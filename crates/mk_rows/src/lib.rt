@@ -2,11 +2,9 @@
 #![tactic(auto)]
 
 #[cfg(test)]
-mod answers;
-#[cfg(test)]
 mod folders;
 #[cfg(test)]
-mod refusals;
+mod projects;
 #[cfg(test)]
 mod runs;
 #[cfg(test)]

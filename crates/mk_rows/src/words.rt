@@ -1,52 +1,66 @@
-use crate::runs::{MANY, OLDER, assert_ending, assert_files, run};
+use crate::runs::{MANY, assert_run};
 use mk_run::Status;
-use std::alloc::AllocGlobal;
-use std::process::Abort;
 use std::test::Fail;
 
 const USAGE: &str =
     "usage: markov [--workers N] [--budget N] PROJECT or markov [--workers N] [--budget N] --model RxC[xD]\n";
 
-// The words stand for no project: a run on them says so, and that is its only call.
-fn assert_faulty(rt: &(impl Abort + AllocGlobal), words: &[&str]) -> Result<(), Fail> {
-    let files = [("P.lat", "1 2\n2 -2\n"), OLDER];
-    let ended = run(rt.alloc(), words, &files, MANY, &[])?;
-    let case = format!(in rt.alloc(); "{words:?}")?;
-    assert_ending(rt, &ended, Status::Usage, USAGE, &case);
-    assert_files(rt, &ended.folder, &files, &case);
-    assert_eq!(rt; ended.folder.calls(), 1, "{case}");
-    assert_eq!(rt; ended.book.input(), None, "{case}");
-    Ok(())
-}
-
+// Words with the files of the project that they name; or, where the last is empty, words that name none: then saying so is the
+// only call. Of those with options that aren't there yet each stays refused when they are.
 #[test]
-fn faulty_words_touch_no_file(rt: HostRuntime) -> Result<(), Fail> {
-    assert_faulty(&rt, &[])?;
-    assert_faulty(&rt, &["P", "Q"])?;
-    assert_faulty(&rt, &[""])?;
-    assert_faulty(&rt, &["--help"])?;
-    assert_faulty(&rt, &["-x"])?;
-    assert_faulty(&rt, &["-x", "P"])?;
-    assert_faulty(&rt, &["--"])?;
-    assert_faulty(&rt, &["--", ""])?;
-    assert_faulty(&rt, &["--", "P", "Q"])
-}
-
-#[test]
-fn words_name_a_project(rt: HostRuntime) -> Result<(), Fail> {
-    let lines = [
+fn words_name_a_project_or_none(rt: HostRuntime) -> Result<(), Fail> {
+    let rows = [
         (["P"].as_slice(), "P.lat", "P.mar"),
         (["P", "--"].as_slice(), "P.lat", "P.mar"),
         (["--", "P"].as_slice(), "P.lat", "P.mar"),
         (["--", "-P"].as_slice(), "-P.lat", "-P.mar"),
         (["-"].as_slice(), "-.lat", "-.mar"),
+        ([].as_slice(), "P.lat", ""),
+        (["P", "Q"].as_slice(), "P.lat", ""),
+        ([""].as_slice(), ".lat", ""),
+        (["--help"].as_slice(), "P.lat", ""),
+        (["-x"].as_slice(), "-x.lat", ""),
+        (["-x", "P"].as_slice(), "P.lat", ""),
+        (["--"].as_slice(), "P.lat", ""),
+        (["--", ""].as_slice(), ".lat", ""),
+        (["--", "P", "Q"].as_slice(), "P.lat", ""),
+        (["--workers", "0", "P"].as_slice(), "P.lat", ""),
+        (["--workers", "65", "P"].as_slice(), "P.lat", ""),
+        (["--budget", "100000001", "P"].as_slice(), "P.lat", ""),
+        (["--model", "2x2", "P"].as_slice(), "P.lat", ""),
+        (["--model", "17x2"].as_slice(), "P.lat", ""),
+        (["--model", "16x16x3"].as_slice(), "P.lat", ""),
+        (
+            ["--workers", "1", "--workers", "1", "P"].as_slice(),
+            "P.lat",
+            "",
+        ),
     ];
-    for (words, lattice, answer) in lines {
+    for (words, lattice, answer) in rows {
         let given = (lattice, "1 2\n-2 2\n");
         let made = (answer, "1 2\n2 -2\n");
-        let ended = run(rt.alloc(), words, &[given], MANY, &[])?;
-        assert_ending(&rt, &ended, Status::Done, "", answer);
-        assert_files(&rt, &ended.folder, &[given, made], answer);
+        if answer == "" {
+            let folder = assert_run(
+                &rt,
+                words,
+                &[given],
+                MANY,
+                &[],
+                (Status::Usage, USAGE),
+                &[given],
+            )?;
+            assert_eq!(rt; folder.calls(), 1);
+        } else {
+            assert_run(
+                &rt,
+                words,
+                &[given],
+                MANY,
+                &[],
+                (Status::Done, ""),
+                &[given, made],
+            )?;
+        }
     }
     Ok(())
 }

@@ -12,7 +12,8 @@ use Rattle.mk_model.proofs.RowConnections.{connected_by_rows}
 use Rattle.mk_files.specs.Table.{IsTable}
 use Rattle.mk_move.specs.Moves.{Weighed}
 use Rattle.mk_move.specs.MoveLists.{lattice_spanned, BasisView, IsBasis, vectors_of}
-use Rattle.mk_saturate.specs.Starts.{IsRowTurned, IsFirstUngraded}
+use Rattle.mk_model.specs.Orders.{IsRowTurned}
+use Rattle.mk_saturate.specs.Starts.{IsFirstUngraded}
 use Rattle.mk_saturate.specs.Saturations.{is_left, IsSaturation}
 use Rattle.mk_saturate.proofs.RowsTurned.{got_is, got_within}
 use Rattle.mk_saturate.proofs.Spans.{SameLattice-transitive, nonzero_columns, nonzero_lattice}

@@ -7,7 +7,7 @@ use Rattle.std.proofs.lemmas.List.{get_or_past}
 use Rattle.std.proofs.lemmas.List.Elements.{All-contains}
 use Rattle.mk_model.specs.Vectors.{entry, zeros, add, subtract, negate, IsPoint}
 use Rattle.mk_model.specs.Lattices.{lattice_of, InLattice, HasGrading, SameLattice}
-use Rattle.mk_model.specs.Orders.{lead, tail}
+use Rattle.mk_model.specs.Orders.{lead, tail, IsRowTurned}
 use Rattle.mk_model.specs.Bases.{IsMarkov}
 use Rattle.mk_model.specs.Pairs.{AreOrientedMoves, EveryPairJoined}
 use Rattle.mk_model.specs.CoreStates.{CoreState, start_of}
@@ -24,7 +24,6 @@ use Rattle.mk_model.proofs.NormalForms.{All-from_contains, part_joined, part_pai
 use Rattle.mk_model.proofs.Dropping.{drop_redundant_part, drop_redundant_covers}
 use Rattle.mk_model.proofs.Connections.{connected_by_others, column_leaves, markov_from_connected}
 use Rattle.mk_model.proofs.EndedStates.{legal_sound, ended_joined}
-use Rattle.mk_saturate.specs.Starts.{IsRowTurned}
 use Rattle.mk_saturate.proofs.Spans.{SameLattice-from_members}
 use Rattle.mk_saturate.proofs.Turned.{move_of, turned_moves, turned_from_lattice, joined_turned}
 

@@ -6,7 +6,7 @@ use Rattle.mk_move.specs.MoveLists.{BasisView, vectors_of}
 use Rattle.mk_core.specs.Phases.{ledger_for, IsPhaseFrom}
 use Rattle.mk_core.specs.declared.phase.Job.{Job}
 use Rattle.mk_core.specs.declared.phase.Phase.{Phase}
-use Rattle.mk_saturate.specs.Starts.{IsRowTurned}
+use Rattle.mk_model.specs.Orders.{IsRowTurned}
 use Rattle.mk_saturate.specs.Saturations.{IsJob, IsPhaseFromBasis}
 
 pub phase_of_job : (basis : BasisView) (p : List ℕ) (budget : ℕ) (job : Job) (phase : Phase) → IsJob basis p budget job → IsPhaseFrom (ledger_for job) phase → IsPhaseFromBasis basis p phase

@@ -10,7 +10,8 @@ use Rattle.mk_model.proofs.VectorAlgebra.{only_zeros, weight-zeros}
 use Rattle.mk_model.proofs.LatticeLaws.{is_zero-entries}
 use Rattle.mk_move.specs.Moves.{Weighed, ReadsRow}
 use Rattle.mk_move.specs.MoveLists.{BasisView, vectors_of}
-use Rattle.mk_saturate.specs.Starts.{IsRowTurned, Starts, PutsOn, with_start}
+use Rattle.mk_model.specs.Orders.{IsRowTurned}
+use Rattle.mk_saturate.specs.Starts.{Starts, PutsOn, with_start}
 use Rattle.mk_move.proofs.Belongings.{BelongsTo-of_row}
 
 pub length-cut : (rows columns : ℕ) (entries : List ℤ) → length (cut rows columns entries) ≡ rows

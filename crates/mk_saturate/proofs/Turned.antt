@@ -4,7 +4,7 @@ use Rattle.std.specs.List.{AllZip}
 use Rattle.std.proofs.lemmas.List.Elements.{All-contains}
 use Rattle.mk_model.specs.Vectors.{add, subtract, negate, weight}
 use Rattle.mk_model.specs.Lattices.{lattice_of, InLattice, HasGrading, SameLattice}
-use Rattle.mk_model.specs.Orders.{IsOriented}
+use Rattle.mk_model.specs.Orders.{IsOriented, IsRowTurned}
 use Rattle.mk_model.specs.Pairs.{AreOrientedMoves}
 use Rattle.mk_model.specs.Walks.{IsStep, Members, Joined}
 use Rattle.mk_model.specs.Walks.Walk.{stay, step}
@@ -13,7 +13,6 @@ use Rattle.mk_model.proofs.VectorAlgebra.{lengths, columns, same_vectors, negate
 use Rattle.mk_model.proofs.Lists.{Contains-none, Contains-here, Contains-there, Contains-cases}
 use Rattle.mk_model.proofs.LatticeLaws.{AllColumns, InLattice-negate, InLattice-row}
 use Rattle.mk_model.proofs.NormalForms.{All-from_contains}
-use Rattle.mk_saturate.specs.Starts.{IsRowTurned}
 use Rattle.mk_saturate.proofs.Spans.{SameLattice-from_members}
 
 -- ---- one row

@@ -6,7 +6,7 @@ use Rattle.std.proofs.lemmas.List.Elements.{AllZip-push}
 use Rattle.mk_move.specs.Moves.{Weighed, IsRowOriented, IsGraded}
 use Rattle.mk_move.specs.MoveLists.{BasisView, BelongsTo, vectors_of}
 use Rattle.mk_move.proofs.Parts.{length-oriented}
-use Rattle.mk_saturate.specs.Starts.{IsRowTurned}
+use Rattle.mk_model.specs.Orders.{IsRowTurned}
 use Rattle.mk_saturate.specs.Saturations.{IsTurnedOnto}
 use Rattle.mk_saturate.proofs.RowsTurned.{got_within}
 

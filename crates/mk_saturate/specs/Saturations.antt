@@ -10,7 +10,7 @@ use Rattle.mk_move.specs.Priorities.{others}
 use Rattle.mk_core.specs.Phases.{IsCompleted}
 use Rattle.mk_core.specs.declared.phase.Job.{Job}
 use Rattle.mk_core.specs.declared.phase.Phase.{Phase}
-use Rattle.mk_saturate.specs.Starts.{IsRowTurned}
+use Rattle.mk_model.specs.Orders.{IsRowTurned}
 
 -- the moves so far, and whether each column is unsaturated
 pub record SaturationView : Type 0 where

@@ -1,18 +1,13 @@
 -- The moves of a lattice's rows, with which its saturation begins. (Sturmfels, chapter 12)
-use Rattle.std.specs.Prelude.{◌≡◌, ◌≢◌, ◌⊎◌, ℕ, ◌+◌, ◌<◌, ◌^◌, List, [], ◌∷◌, ◌++◌, length, take, All, Option, None, Result, Ok, Err, Some, slice_get, ℤ, pos}
+use Rattle.std.specs.Prelude.{◌≡◌, ◌≢◌, ℕ, ◌+◌, ◌<◌, ◌^◌, List, [], ◌∷◌, ◌++◌, length, take, All, Option, None, Result, Ok, Err, Some, slice_get, ℤ, pos}
 use Rattle.std.specs.List.{AllZip}
-use Rattle.mk_model.specs.Vectors.{negate, weight}
+use Rattle.mk_model.specs.Vectors.{weight}
 use Rattle.mk_model.specs.Lattices.{nonzero_rows}
-use Rattle.mk_model.specs.Orders.{IsOriented}
+use Rattle.mk_model.specs.Orders.{IsRowTurned}
 use Rattle.mk_move.specs.MoveLists.{BasisView, BelongsTo, vectors_of}
 use Rattle.mk_move.specs.Moves.{Weighed}
 use Rattle.mk_move.specs.declared.moves.MoveFault.{MoveFault}
 use Rattle.mk_move.specs.declared.moves.MoveFault.TheVariants.{Memory, NotGraded}
-
--- the row or its negative, oriented by the list
-pub record IsRowTurned (p : List ℕ) (row move : List ℤ) : Type 0 where
-  pub either : (move ≡ row) ⊎ (move ≡ negate row)
-  pub oriented : IsOriented p move
 
 -- the rows that are not zero, in their order, each oriented by the list
 pub record IsStart (rows : List (List ℤ)) (w : List ℤ) (p : List ℕ) (basis : BasisView) : Type 0 where

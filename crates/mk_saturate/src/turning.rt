@@ -2,7 +2,7 @@ ghost use Rattle.std.specs.Prelude.{◌≡◌, ◌+◌, ◌<◌, ◌≤◌, ◌^
 ghost use Rattle.std.specs.List.{AllZip};
 ghost use Rattle.mk_move.specs.Moves.{IsGraded};
 ghost use Rattle.mk_move.specs.MoveLists.{vectors_of};
-ghost use Rattle.mk_saturate.specs.Starts.{IsRowTurned};
+ghost use Rattle.mk_model.specs.Orders.{IsRowTurned};
 ghost use Rattle.mk_saturate.specs.Saturations.{IsJob, IsTurnedOnto};
 
 use mk_core::Job;

@@ -3,9 +3,10 @@ use Rattle.std.proofs.Common.{◌≡◌, ◌⊎◌, inl, inr, ℕ, zero, suc, �
 use Rattle.std.specs.List.{range_with_len}
 use Rattle.std.proofs.lemmas.Bool.{cases_eq, cases_lt, both_ways}
 use Rattle.std.proofs.lemmas.List.{get_or-replicate, length-replicate, get_or-set_same, get_or-set_other}
+use Rattle.std.proofs.lemmas.List.Elements.{All-nil}
 use Rattle.mk_model.specs.Lattices.{nonzero_rows, SameLattice}
 use Rattle.mk_model.specs.Orders.{standard}
-use Rattle.mk_model.specs.Tables.{Grid, rows_of}
+use Rattle.mk_model.specs.Books.{lists_for}
 use Rattle.mk_move.specs.MoveLists.{BasisView, vectors_of}
 use Rattle.mk_move.specs.Priorities.{others}
 use Rattle.mk_core.specs.declared.phase.Job.{Job}
@@ -13,12 +14,12 @@ use Rattle.mk_saturate.specs.Starts.{IsStart}
 use Rattle.mk_saturate.specs.Saturations.{SaturationView, is_left, IsLeastLeft, NoneLeft, IsJob, IsNextJob}
 use Rattle.mk_saturate.proofs.Completions.{left_within}
 use Rattle.mk_solve.specs.Books.{Book, empty_book, settled_of}
-use Rattle.mk_solve.specs.Solutions.{lists_for, Solves}
+use Rattle.mk_solve.specs.Solutions.{IsPhaseKept, Solves}
 use Rattle.mk_solve.specs.Steps.{StopsIn, TakesPhase, IsLeastTaken, TakesColumn, TakesLast}
 use Rattle.mk_solve.specs.declared.solving.RunStop.{RunStop}
 use Rattle.mk_solve.specs.declared.solving.RunStop.TheVariants.{Memory, Stopped}
 use Rattle.mk_solve.proofs.Sums.{none_settled, length-push}
-use Rattle.mk_solve.proofs.Reached.{either_turned, IsReached, reached_on, stopped_solves}
+use Rattle.mk_solve.proofs.Reached.{lattice_with, either_turned, IsReached, bases_kept, reached_solves, reached_on, stopped_solves}
 
 -- The columns from one on are left, as many as the count says, and for each column before it the book has a phase.
 pub record IsSaturating (rows : List (List ℤ)) (w : List ℤ) (budget : ℕ) (saturation : SaturationView) (book : Book) : Type 0 where
@@ -31,8 +32,13 @@ pub record IsSaturating (rows : List (List ℤ)) (w : List ℤ) (budget : ℕ) (
   pub reached : IsReached rows w budget rest saturation.basis book (lists_for (length w) (range_with_len (length book.phases) count))
 
 -- ---- the run begins
-pub nothing_kept : (grid : Grid) (w : List ℤ) (budget : ℕ) (book : Book) → book ≡ empty_book → Solves grid w budget (Err Memory) book
-nothing_kept grid w budget book e = subst (λ (b : Book). Solves grid w budget (Err Memory) b) (sym e) (refl, refl, omega (arith, none_settled))
+pub nothing_kept : (rows : List (List ℤ)) (w : List ℤ) (budget : ℕ) (book : Book) → book ≡ empty_book → Solves (lattice_with rows w) budget (Err Memory) book
+nothing_kept rows w budget book e = subst (λ (b : Book). Solves (lattice_with rows w) budget (Err Memory) b) (sym e) (record {
+  input = refl;
+  settled = omega (arith, none_settled);
+  bases = bases_kept w empty_book (All-nil (IsPhaseKept w)) refl;
+  ends = (refl, record { rest = nonzero_rows rows; left = _; phases = (refl, refl); reduced = inl refl });
+})
 
 pub begins : (rows : List (List ℤ)) (w : List ℤ) (n budget : ℕ) (saturation : SaturationView) (book : Book) → length w ≡ n → IsStart rows w (standard n) saturation.basis →
     saturation.left ≡ replicate n true → SameLattice n rows (vectors_of saturation.basis.moves) → book ≡ empty_book → IsSaturating rows w budget saturation book
@@ -45,6 +51,7 @@ begins rows w n budget saturation book same start left lattice e = subst (λ (b 
   onwards = λ c k l. ap (λ (flags : List Bool). is_left flags c) left ∙ get_or-replicate n c true false (omega (arith, l, same));
   reached = record {
     phases = (refl, refl);
+    kept = All-nil (IsPhaseKept w);
     turned = either_turned (standard n) (nonzero_rows rows) (vectors_of saturation.basis.moves) start.moves;
     lattice = subst (λ k. SameLattice k rows (vectors_of saturation.basis.moves)) (sym same) lattice;
     grading = start.grading;
@@ -135,19 +142,19 @@ module _ (rows : List (List ℤ)) (w : List ℤ) (budget : ℕ) (saturation : Sa
             (reached_on rows w budget h.rest saturation.basis book (column ∷ others column (length w)) _ at.reached job at.over next.basis after t);
       }
 
-  pub column_stopped : (job : Job) → IsNextJob saturation (budget - settled_of book.phases) (Some job) → (grid : Grid) → rows_of grid ≡ rows → (after : Book) → StopsIn job book after → Solves grid w budget (Err Stopped) after
-  column_stopped job n grid same after s =
+  pub column_stopped : (job : Job) → IsNextJob saturation (budget - settled_of book.phases) (Some job) → (after : Book) → StopsIn job book after → Solves (lattice_with rows w) budget (Err Stopped) after
+  column_stopped job n after s =
       let (column, more, at) = at_column job n in
-      stopped_solves rows w budget h.rest saturation.basis book (column ∷ others column (length w)) _ at.reached job at.over grid same after s
+      stopped_solves rows w budget h.rest saturation.basis book (column ∷ others column (length w)) _ at.reached job at.over after s
 
   -- without memory the book is as before
-  pub without_memory : (grid : Grid) → (after : Book) → after ≡ book → Solves grid w budget (Err Memory) after
-  without_memory grid after e = subst (λ (b : Book). Solves grid w budget (Err Memory) b) (sym e) (h.reached.stop, h.reached.input, h.reached.within)
+  pub without_memory : (after : Book) → after ≡ book → Solves (lattice_with rows w) budget (Err Memory) after
+  without_memory after e = subst (λ (b : Book). Solves (lattice_with rows w) budget (Err Memory) b) (sym e) (reached_solves rows w budget h.rest saturation.basis book _ h.reached)
 
-  pub column_refused : (job : Job) → IsNextJob saturation (budget - settled_of book.phases) (Some job) → (grid : Grid) → rows_of grid ≡ rows → (next : SaturationView) (after : Book) (fault : RunStop) →
-      TakesColumn saturation job book (Err fault) next after → Solves grid w budget (Err fault) after
-  column_refused job n grid same next after Memory e = without_memory grid after e
-  column_refused job n grid same next after Stopped s = column_stopped job n grid same after s
+  pub column_refused : (job : Job) → IsNextJob saturation (budget - settled_of book.phases) (Some job) → (next : SaturationView) (after : Book) (fault : RunStop) →
+      TakesColumn saturation job book (Err fault) next after → Solves (lattice_with rows w) budget (Err fault) after
+  column_refused job n next after Memory e = without_memory after e
+  column_refused job n next after Stopped s = column_stopped job n after s
 
   -- ---- no column is left
   pub none_counted : NoneLeft saturation.left → length book.phases ≡ length w
@@ -170,15 +177,15 @@ module _ (rows : List (List ℤ)) (w : List ℤ) (budget : ℕ) (saturation : Sa
   all_done none job j saturated after t =
       reached_on rows w budget h.rest saturation.basis book (standard (length w)) [] (reached_all none) job (last_job job j) saturated after t
 
-  pub last_stopped : NoneLeft saturation.left → (job : Job) → IsJob saturation.basis (standard (length saturation.basis.grading)) (budget - settled_of book.phases) job → (grid : Grid) → rows_of grid ≡ rows → (after : Book) →
-      StopsIn job book after → Solves grid w budget (Err Stopped) after
-  last_stopped none job j grid same after s =
-      stopped_solves rows w budget h.rest saturation.basis book (standard (length w)) [] (reached_all none) job (last_job job j) grid same after s
+  pub last_stopped : NoneLeft saturation.left → (job : Job) → IsJob saturation.basis (standard (length saturation.basis.grading)) (budget - settled_of book.phases) job → (after : Book) →
+      StopsIn job book after → Solves (lattice_with rows w) budget (Err Stopped) after
+  last_stopped none job j after s =
+      stopped_solves rows w budget h.rest saturation.basis book (standard (length w)) [] (reached_all none) job (last_job job j) after s
 
-  pub last_refused : NoneLeft saturation.left → (job : Job) → IsJob saturation.basis (standard (length saturation.basis.grading)) (budget - settled_of book.phases) job → (grid : Grid) → rows_of grid ≡ rows →
-      (after : Book) (fault : RunStop) → TakesLast saturation.basis job book (Err fault) after → Solves grid w budget (Err fault) after
-  last_refused none job j grid same after Memory e = without_memory grid after e
-  last_refused none job j grid same after Stopped s = last_stopped none job j grid same after s
+  pub last_refused : NoneLeft saturation.left → (job : Job) → IsJob saturation.basis (standard (length saturation.basis.grading)) (budget - settled_of book.phases) job →
+      (after : Book) (fault : RunStop) → TakesLast saturation.basis job book (Err fault) after → Solves (lattice_with rows w) budget (Err fault) after
+  last_refused none job j after Memory e = without_memory after e
+  last_refused none job j after Stopped s = last_stopped none job j after s
 
 -- a column less is left
 pub fewer : (w : List ℤ) (rows : List (List ℤ)) (budget : ℕ) (job : Job) (moves : BasisView) (book : Book) (next : SaturationView) (after : Book) → TakesPhase job moves book next.basis after →

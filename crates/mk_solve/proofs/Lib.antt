@@ -6,3 +6,4 @@ pub mod Columns
 pub mod SameAnswers
 pub mod Tails
 pub mod Minimising
+pub mod Endings

@@ -1,15 +1,18 @@
 -- How many pairs phases settled together.
 use Rattle.std.proofs.Common.{◌≡◌, ℕ, ◌+◌, ◌<◌, ◌^◌, List, [], ◌∷◌, ◌++◌, length, arith, refl, ap, length-append}
+use Rattle.std.proofs.lemmas.List.{length-map}
+use Rattle.mk_model.specs.Books.{settled_in}
+use Rattle.mk_ledger.specs.Entries.{settle_of}
 use Rattle.mk_core.specs.declared.phase.Phase.{Phase}
 use Rattle.mk_solve.specs.Books.{settled_of, IsBookKept}
 
 pub none_settled : settled_of [] ≡ 0
-unfolding settled_of
+unfolding settled_in
 none_settled = refl
 
 pub settled_push : (phases : List Phase) (phase : Phase) → settled_of (phases ++ phase ∷ []) ≡ settled_of phases + length phase.journal
-unfolding settled_of
-settled_push [] phase = omega arith
+unfolding settled_in
+settled_push [] phase = omega (arith, length-map phase.journal settle_of)
 settled_push (first ∷ phases) phase = omega (arith, settled_push phases phase)
 
 pub length-push : (phases : List Phase) (phase : Phase) → length (phases ++ phase ∷ []) ≡ length phases + 1

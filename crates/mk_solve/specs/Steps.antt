@@ -1,20 +1,20 @@
 -- What the steps of a run give, and what they leave in the book.
-use Rattle.std.specs.Prelude.{◌≡◌, ℕ, List, [], ◌∷◌, ◌++◌, length, Bool, false, set, Some, Result, Ok, Err, ℤ}
+use Rattle.std.specs.Prelude.{◌≡◌, ℕ, List, [], ◌∷◌, ◌++◌, length, All, Bool, false, set, Some, Result, Ok, Err, ℤ}
 use Rattle.mk_model.specs.Bases.{IsAnswer}
-use Rattle.mk_model.specs.CoreStates.{pair_of, OverflowStop}
+use Rattle.mk_model.specs.CoreStates.{pair_of}
 use Rattle.mk_model.specs.Lattices.{SameLattice}
 use Rattle.mk_model.specs.Legal.{IsEnded}
-use Rattle.mk_model.specs.Overflows.{IsGenuineOverflow, IsTailOverflow}
+use Rattle.mk_model.specs.Overflows.{IsGenuineOverflow, IsTailOverflow, IsPairOfWeight}
 use Rattle.mk_model.specs.ReducedBases.{IsReducedBasis}
+use Rattle.mk_move.specs.Moves.{IsGraded}
 use Rattle.mk_move.specs.MoveLists.{lattice_spanned, MoveListView, BasisView, vectors_of}
 use Rattle.mk_ledger.specs.Halts.{stop_of}
-use Rattle.mk_ledger.specs.declared.halt.OverflowStop.{OverflowStop as KeptStop}
+use Rattle.mk_ledger.specs.declared.halt.OverflowStop.{OverflowStop}
 use Rattle.mk_core.specs.Phases.{ledger_for, state_of, IsPhaseFrom, IsLeft, PhaseIsOverBudget, IsBasisFull, Finishes}
 use Rattle.mk_core.specs.declared.phase.Job.{Job}
 use Rattle.mk_core.specs.declared.phase.Phase.{Phase}
 use Rattle.mk_saturate.specs.Saturations.{SaturationView, IsLeastLeft, IsDropped}
 use Rattle.mk_inter.specs.Tails.{IsReducedList}
-use Rattle.mk_minimise.specs.Minimal.{IsPairOfDegree}
 use Rattle.mk_solve.specs.Books.{Book, settled_of}
 use Rattle.mk_solve.specs.declared.book.BookStop.{BookStop}
 use Rattle.mk_solve.specs.declared.book.BookStop.TheVariants.{Overflow, Budget, BasisFull}
@@ -82,15 +82,6 @@ TakesLast moves job before (Ok saturated) after = TakesPhase job moves before sa
 TakesLast moves job before (Err Memory) after = after ≡ before
 TakesLast moves job before (Err Stopped) after = StopsIn job before after
 
--- an entry left the range in a step on the tail of the move of an index
-pub record IsTailStop (moves : List (List ℤ)) (index : ℕ) (stop : OverflowStop) : Type 0 where
-  pub place : ℕ
-  pub operand : List ℤ
-  pub pair : stop.pair ≡ pair_of index index
-  pub by : stop.by ≡ Some place
-  pub from : stop.operand ≡ Some operand
-  pub genuine : IsTailOverflow moves index place operand stop
-
 -- the reduced basis of what the saturated one spans
 pub record IsReducedOf (saturated : BasisView) (basis : BasisView) : Type 0 where
   pub reduced : IsReducedBasis (lattice_spanned saturated) (vectors_of basis.moves)
@@ -101,8 +92,8 @@ pub record IsReducedOf (saturated : BasisView) (basis : BasisView) : Type 0 wher
 -- a stop at a tail, which the book keeps
 pub record KeepsTailStop (saturated : BasisView) (before after : Book) : Type 0 where
   pub index : ℕ
-  pub stop : KeptStop
-  pub cause : IsTailStop (vectors_of saturated.moves) index (stop_of stop)
+  pub stop : OverflowStop
+  pub genuine : IsTailOverflow (vectors_of saturated.moves) index (stop_of stop)
   pub kept : after ≡ record before { stop = Some (Overflow (Tail index) stop) }
 
 -- the reduced basis, or why there is none
@@ -114,12 +105,13 @@ Reduces saturated before (Err Stopped) after = KeepsTailStop saturated before af
 -- the essential moves of what the reduced basis spans
 pub record IsMinimalOf (basis : BasisView) (list : MoveListView) : Type 0 where
   pub columns : list.columns ≡ length basis.grading
+  pub graded : All (IsGraded basis.grading) list.moves
   pub answer : IsAnswer (lattice_spanned basis) (vectors_of list.moves)
 
--- a stop at a degree of the reduced basis, and this basis, which the book keeps
-pub record KeepsDegreeStop (basis : BasisView) (before after : Book) : Type 0 where
-  pub stop : KeptStop
-  pub degree : IsPairOfDegree basis.grading (vectors_of basis.moves) stop.i stop.j
+-- a stop at a weight of the reduced basis, and this basis, which the book keeps
+pub record KeepsWeightStop (basis : BasisView) (before after : Book) : Type 0 where
+  pub stop : OverflowStop
+  pub of_weight : IsPairOfWeight basis.grading (vectors_of basis.moves) (stop_of stop).pair
   pub genuine : IsGenuineOverflow (vectors_of basis.moves) (stop_of stop)
   pub kept : after ≡ record before { reduced = Some basis; stop = Some (Overflow Degree stop) }
 
@@ -127,4 +119,4 @@ pub record KeepsDegreeStop (basis : BasisView) (before after : Book) : Type 0 wh
 abbrev pub Minimises : BasisView → Book → Result MoveListView RunStop → Book → Type 0
 Minimises basis before (Ok list) after = IsMinimalOf basis list × (after ≡ record before { reduced = Some basis })
 Minimises basis before (Err Memory) after = after ≡ record before { reduced = Some basis }
-Minimises basis before (Err Stopped) after = KeepsDegreeStop basis before after
+Minimises basis before (Err Stopped) after = KeepsWeightStop basis before after

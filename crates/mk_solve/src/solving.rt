@@ -1,10 +1,10 @@
 ghost use Rattle.std.specs.Prelude.{◌≡◌, ◌+◌, ◌<◌, ◌^◌, Some, All, length, pos};
 ghost use Rattle.mk_model.specs.Orders.{standard};
-ghost use Rattle.mk_model.specs.Tables.{rows_of};
+ghost use Rattle.mk_model.specs.Tables.{rows_of, lattice_of_table};
 ghost use Rattle.mk_model.specs.Vectors.{weight};
 ghost use Rattle.mk_saturate.specs.Saturations.{NoneLeft, IsJob, IsNextJob};
 ghost use Rattle.mk_solve.specs.Books.{empty_book, settled_of};
-ghost use Rattle.mk_solve.specs.Solutions.{Solves};
+ghost use Rattle.mk_solve.specs.Solutions.{Solves, StopsByBudget};
 ghost use Rattle.mk_solve.specs.Steps.{TakesColumn, TakesLast, Reduces, Minimises};
 
 use crate::book::{BookStop, OverflowPlace, RunBook};
@@ -39,8 +39,8 @@ impl From<NoMemory> for RunStop {
 
 /// The essential moves of the lattice of a table's rows, ascending by move order, by one worker. The grading has as many columns as
 /// the table and product 0 with each row, and at most so many pairs are settled; those of the last step aren't counted. The book,
-/// which is empty, keeps each phase, the one that stopped too, and the reduced basis. `Stopped` exactly where the book has a stop.
-/// (Sturmfels, chapters 1, 5 and 12)
+/// which is empty, keeps each phase, the one that stopped too, and the reduced basis. `Stopped` exactly where the book has a stop; where
+/// memory runs out it keeps the phases that ended. (Sturmfels, chapters 1, 5 and 12)
 pub fn solve_alone(
     alloc: Global,
     lat: &Table,
@@ -51,7 +51,8 @@ pub fn solve_alone(
     requires book { book.old ≡ empty_book }
     requires columns { length grading.now ≡ lat.now.columns }
     requires graded { All (λ row. weight grading.now row ≡ pos 0) (rows_of lat.now) }
-    ensures { Solves lat.now grading.now budget result book.new }
+    ensures solved { Solves (lattice_of_table lat.now grading.now) budget result book.new }
+    ensures budget { StopsByBudget budget result book.new }
 {
     let mut saturation = Saturation::start(alloc, lat, grading)?;
     while let Some(job) = saturation.next_job(alloc, budget - book.settled())? {

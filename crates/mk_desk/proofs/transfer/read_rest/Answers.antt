@@ -1,8 +1,8 @@
 use Rattle.std.proofs.Common.{◌≡◌, ◌+◌, ap, sym, ◌∙◌, vec_len, arith}
 use Rattle.std.proofs.lemmas.List.{length-take}
 use Rattle.mk_desk.specs.Folders.{State}
-use Rattle.mk_desk.proofs.Telling.{where_told_then, where_told_same, no_fault}
-use Rattle.mk_desk.proofs.Loading.{none_read, read_more, all_read, too_long, no_memory, refused, no_size, the_error, cause_passed_on, none_counted, given_since, given_more}
+use Rattle.mk_desk.proofs.Telling.{where_told_then, where_told_same, no_failure}
+use Rattle.mk_desk.proofs.Loading.{none_read, read_more, all_read, too_long, no_memory, refused, no_size, the_error, cause_passed_on, none_counted, given_more}
 use Rattle.mk_desk.specs.declared.transfer.LoadFault.TheVariants.{Memory}
 use Rattle.mk_desk.proofs.transfer.read_rest.Given.{Over}
 use Rattle.mk_desk.proofs.transfer.read_rest.Goals as goal
@@ -40,7 +40,7 @@ returns-in_err-count-clause-told g c =
     (refused c.read.new.into c.loop-buffer.bytes.items c.args.limit c.in_err-count.field-0.0 c.from_residual-in_err-count.result c.from_residual-in_err-count.ensures.1)
 
 pub returns-then-count-eq0-clause-cause : goal.returns-then-count-eq0-clause-cause
-returns-then-count-eq0-clause-cause g c = no_fault _ _ _ (none_counted (g.F.Folder.state c.args.folder.now) _ _ _ _ c.loop-buffer.invariant.same c.in_ok-count.ensures.cause (λ e. cc)) (λ e. cc)
+returns-then-count-eq0-clause-cause g c = no_failure _ _ _ (none_counted (g.F.Folder.state c.args.folder.now) _ _ _ _ c.loop-buffer.invariant.same c.in_ok-count.ensures.cause (λ e. cc)) (λ e. cc)
 
 pub returns-then-count-eq0-clause-told : goal.returns-then-count-eq0-clause-told
 returns-then-count-eq0-clause-told g c =
@@ -48,7 +48,7 @@ returns-then-count-eq0-clause-told g c =
     (all_read c.read.new.into c.loop-buffer.bytes c.args.limit c.in_ok-count.count c.if-count-eq0.true (omega (arith, c.loop-buffer.invariant.within)))
 
 pub returns-then-count-left-clause-cause : goal.returns-then-count-left-clause-cause
-returns-then-count-left-clause-cause g c = no_fault _ _ _ (none_counted (g.F.Folder.state c.args.folder.now) _ _ _ _ c.loop-buffer.invariant.same c.in_ok-count.ensures.cause (λ e. cc)) (λ e. cc)
+returns-then-count-left-clause-cause g c = no_failure _ _ _ (none_counted (g.F.Folder.state c.args.folder.now) _ _ _ _ c.loop-buffer.invariant.same c.in_ok-count.ensures.cause (λ e. cc)) (λ e. cc)
 
 pub returns-then-count-left-clause-told : goal.returns-then-count-left-clause-told
 returns-then-count-left-clause-told g c =
@@ -98,7 +98,7 @@ loop-buffer-preserved g c = record {
 pub returns-in_err-extend_from_slice-clause-cause :
     goal.returns-in_err-extend_from_slice-clause-cause
 returns-in_err-extend_from_slice-clause-cause g c =
-    no_fault _ _ c.from_residual-in_err-extend_from_slice.result (none_counted (g.F.Folder.state c.args.folder.now) _ _ _ _ c.loop-buffer.invariant.same c.in_ok-count.ensures.cause (λ e. cc)) (λ e. cc (the_error c.from_residual-in_err-extend_from_slice.result Memory c.from_residual-in_err-extend_from_slice.ensures.1))
+    no_failure _ _ c.from_residual-in_err-extend_from_slice.result (none_counted (g.F.Folder.state c.args.folder.now) _ _ _ _ c.loop-buffer.invariant.same c.in_ok-count.ensures.cause (λ e. cc)) (λ e. cc (the_error c.from_residual-in_err-extend_from_slice.result Memory c.from_residual-in_err-extend_from_slice.ensures.1))
 
 pub returns-in_err-extend_from_slice-clause-told :
     goal.returns-in_err-extend_from_slice-clause-told

@@ -1,6 +1,5 @@
-use Rattle.std.proofs.Common.{◌≡◌, ◌+◌, ◌-◌, ◌≤◌, Some, vec_len}
+use Rattle.std.proofs.Common.{◌≡◌, ◌+◌, ◌-◌, ◌≤◌, vec_len}
 use Rattle.mk_desk.specs.Folders.{WhereTold}
-use Rattle.mk_desk.specs.declared.folder.Found.TheVariants.{Here}
 use Rattle.mk_desk.proofs.Loading.{HasRead}
 use Rattle.mk_desk.proofs.transfer.read_rest.Given as goal
 

@@ -1,5 +1,5 @@
-use Rattle.std.proofs.Common.{◌≡◌, ◌≤◌, ◌-◌, All, length}
-use Rattle.mk_move.specs.MoveLists.{vectors_of}
+use Rattle.std.proofs.Common.{◌≤◌, ◌-◌, All, length}
+use Rattle.mk_move.specs.MoveLists.{BelongsTo, vectors_of}
 use Rattle.mk_minimise.specs.Stages.{IsFront, AreChosen}
 use Rattle.mk_minimise.proofs.minimal.chosen_of.Given as goal
 
@@ -7,7 +7,7 @@ abbrev pub invariant-loop-alloc : goal.invariant-loop-alloc
 invariant-loop-alloc l = record {
   front : IsFront l.basis l.lower;
   chosen : AreChosen (length l.basis.grading) l.basis.grading (vectors_of l.basis.moves) (length l.lower.moves) (vectors_of l.chosen.items);
-  columns : All (λ m. length m.entries ≡ length l.basis.grading) l.chosen.items;
+  belongs : All (BelongsTo l.basis.priority l.basis.grading) l.chosen.items;
   few : length l.chosen.items ≤ length l.lower.moves;
 }
 

@@ -1,7 +1,7 @@
 use Rattle.std.proofs.Common.{refl}
 use Rattle.mk_model.specs.Vectors.{combine, positive_part}
 use Rattle.mk_model.specs.Reductions.{lcm}
-use Rattle.mk_model.proofs.PairExamples.{oriented_moves, disjoint, joined_below, every_pair}
+use Rattle.mk_model.proofs.PairExamples.{oriented_moves, point_below, disjoint, joined_below, of_weight, every_pair}
 use Rattle.mk_model.proofs.examples.pair_examples.Goals as goal
 
 pub returns : goal.returns
@@ -9,7 +9,9 @@ unfolding lcm combine positive_part
 returns c = record {
   multiple_of_leads = refl;
   oriented_moves = oriented_moves;
+  point_below = point_below;
   disjoint = disjoint;
   joined_below = joined_below;
+  of_weight = of_weight;
   every_pair = every_pair;
 }

@@ -1,7 +1,7 @@
 use Rattle.std.proofs.Common.{◌≡◌, take}
 use Rattle.std.specs.List.{AllZip}
 use Rattle.mk_move.specs.MoveLists.{vectors_of}
-use Rattle.mk_saturate.specs.Starts.{IsRowTurned}
+use Rattle.mk_model.specs.Orders.{IsRowTurned}
 use Rattle.mk_saturate.proofs.turning.turned.Given as goal
 
 abbrev pub invariant-loop-k : goal.invariant-loop-k

@@ -5,12 +5,12 @@ use Rattle.mk_move.specs.MoveLists.{MoveListView, vectors_of}
 use Rattle.mk_core.specs.declared.phase.Job.{Job}
 use Rattle.mk_saturate.specs.Saturations.{NoneLeft, IsJob, IsNextJob}
 use Rattle.mk_solve.specs.Books.{Book, settled_of}
-use Rattle.mk_solve.specs.Solutions.{Solves}
 use Rattle.mk_solve.specs.declared.solving.RunStop.{RunStop}
 use Rattle.mk_solve.specs.declared.solving.RunStop.TheVariants.{Memory}
+use Rattle.mk_solve.proofs.Endings.{table_solves, table_refused, solves_by_budget}
 use Rattle.mk_solve.proofs.Faults.{the_error}
 use Rattle.mk_solve.proofs.Columns.{IsSaturating, nothing_kept, begins, column_done, column_refused, fewer, all_done, last_refused}
-use Rattle.mk_solve.proofs.Reached.{IsReached}
+use Rattle.mk_solve.proofs.Reached.{IsReached, reached_solves}
 use Rattle.mk_solve.proofs.Tails.{reduction_refused}
 use Rattle.mk_solve.proofs.Minimising.{minimising_solves}
 use Rattle.mk_solve.proofs.solving.solve_alone.Goals as goal
@@ -38,8 +38,9 @@ last_job c =
 
 pub returns-in_err-saturation : goal.returns-in_err-saturation
 returns-in_err-saturation c =
-    subst (λ (result : Result MoveListView RunStop). Solves c.args.lat.now c.args.grading.now c.args.budget result c.args.book.now) (sym (the_error c.from_residual.result Memory c.from_residual.ensures.1))
-    (nothing_kept c.args.lat.now c.args.grading.now c.args.budget c.args.book.now c.requires.book)
+    let s = table_refused c.args.lat.now c.args.grading.now c.args.budget c.from_residual.result Memory c.args.book.now c.requires.columns (the_error c.from_residual.result Memory c.from_residual.ensures.1)
+    (nothing_kept (rows_of c.args.lat.now) c.args.grading.now c.args.budget c.args.book.now c.requires.book) in
+    record { solved = s; budget = solves_by_budget _ c.args.budget _ c.args.book.now s }
 
 pub loop-saturation-init : goal.loop-saturation-init
 loop-saturation-init c =
@@ -57,22 +58,40 @@ loop-saturation-preserved c =
     let at = goal.at.loop-saturation-preserved c in
     saturated_more at.In_ok-saturate_column (next_job at.In-Some)
 
+pub returns-in_err-job : goal.returns-in_err-job
+returns-in_err-job c =
+    let book = c.loop-saturation.book in
+    let s = table_refused c.args.lat.now c.args.grading.now c.args.budget c.from_residual-in_err-job.result Memory book c.requires.columns (the_error c.from_residual-in_err-job.result Memory c.from_residual-in_err-job.ensures.1)
+    (reached_solves (rows_of c.args.lat.now) c.args.grading.now c.args.budget c.loop-saturation.invariant.rest c.loop-saturation.saturation.basis book _ c.loop-saturation.invariant.reached) in
+    record { solved = s; budget = solves_by_budget _ c.args.budget _ book s }
+
 pub returns-in_err-saturate_column : goal.returns-in_err-saturate_column
 returns-in_err-saturate_column c =
     let fault = c.in_err-saturate_column.field-0.0 in
-    subst (λ (result : Result MoveListView RunStop). Solves c.args.lat.now c.args.grading.now c.args.budget result c.saturate_column.new.book)
-    (sym (the_error c.from_residual-in_err-saturate_column.result fault c.from_residual-in_err-saturate_column.ensures.1))
+    let after = c.saturate_column.new.book in
+    let s = table_refused c.args.lat.now c.args.grading.now c.args.budget c.from_residual-in_err-saturate_column.result fault after c.requires.columns
+    (the_error c.from_residual-in_err-saturate_column.result fault c.from_residual-in_err-saturate_column.ensures.1)
     (column_refused (rows_of c.args.lat.now) c.args.grading.now c.args.budget c.loop-saturation.saturation c.loop-saturation.book c.loop-saturation.invariant c.in-Some.job
-    (next_job (goal.at.returns-in_err-saturate_column c).In-Some) c.args.lat.now refl c.saturate_column.new.saturation c.saturate_column.new.book fault c.in_err-saturate_column.ensures)
+    (next_job (goal.at.returns-in_err-saturate_column c).In-Some) c.saturate_column.new.saturation after fault c.in_err-saturate_column.ensures) in
+    record { solved = s; budget = solves_by_budget _ c.args.budget _ after s }
+
+pub returns-in_err-job-2 : goal.returns-in_err-job-2
+returns-in_err-job-2 c =
+    let book = c.loop-saturation.book in
+    let s = table_refused c.args.lat.now c.args.grading.now c.args.budget c.from_residual-in_err-job-2.result Memory book c.requires.columns (the_error c.from_residual-in_err-job-2.result Memory c.from_residual-in_err-job-2.ensures.1)
+    (reached_solves (rows_of c.args.lat.now) c.args.grading.now c.args.budget c.loop-saturation.invariant.rest c.loop-saturation.saturation.basis book _ c.loop-saturation.invariant.reached) in
+    record { solved = s; budget = solves_by_budget _ c.args.budget _ book s }
 
 pub returns-in_err-saturated : goal.returns-in_err-saturated
 returns-in_err-saturated c =
     let fault = c.in_err-saturated.field-0.0 in
+    let after = c.finish.new.book in
     let at = goal.at.returns-in_err-saturated c in
-    subst (λ (result : Result MoveListView RunStop). Solves c.args.lat.now c.args.grading.now c.args.budget result c.finish.new.book)
-    (sym (the_error c.from_residual-in_err-saturated.result fault c.from_residual-in_err-saturated.ensures.1))
+    let s = table_refused c.args.lat.now c.args.grading.now c.args.budget c.from_residual-in_err-saturated.result fault after c.requires.columns
+    (the_error c.from_residual-in_err-saturated.result fault c.from_residual-in_err-saturated.ensures.1)
     (last_refused (rows_of c.args.lat.now) c.args.grading.now c.args.budget c.loop-saturation.saturation c.loop-saturation.book c.loop-saturation.invariant (none_left at.In_default)
-    c.in_ok-job-2.job (last_job at.In_ok-job-2) c.args.lat.now refl c.finish.new.book fault c.in_err-saturated.ensures)
+    c.in_ok-job-2.job (last_job at.In_ok-job-2) after fault c.in_err-saturated.ensures) in
+    record { solved = s; budget = solves_by_budget _ c.args.budget _ after s }
 
 -- every phase is ended
 reached_all : (c : In_ok-saturated) → NoneLeft c.loop-saturation.saturation.left →
@@ -85,11 +104,13 @@ reached_all c none job =
 pub returns-in_err-reduced : goal.returns-in_err-reduced
 returns-in_err-reduced c =
     let fault = c.in_err-reduced.field-0.0 in
+    let after = c.reduce.new.book in
     let at = goal.at.returns-in_err-reduced c in
-    subst (λ (result : Result MoveListView RunStop). Solves c.args.lat.now c.args.grading.now c.args.budget result c.reduce.new.book)
-    (sym (the_error c.from_residual-in_err-reduced.result fault c.from_residual-in_err-reduced.ensures.1))
-    (reduction_refused c.args.lat.now c.args.grading.now c.args.budget c.in_ok-saturated.saturated c.finish.new.book (reached_all at.In_ok-saturated (none_left at.In_default) (last_job at.In_ok-job-2))
-    fault c.reduce.new.book c.in_err-reduced.ensures)
+    let s = table_refused c.args.lat.now c.args.grading.now c.args.budget c.from_residual-in_err-reduced.result fault after c.requires.columns
+    (the_error c.from_residual-in_err-reduced.result fault c.from_residual-in_err-reduced.ensures.1)
+    (reduction_refused (rows_of c.args.lat.now) c.args.grading.now c.args.budget c.in_ok-saturated.saturated c.finish.new.book (reached_all at.In_ok-saturated (none_left at.In_default) (last_job at.In_ok-job-2))
+    fault after c.in_err-reduced.ensures) in
+    record { solved = s; budget = solves_by_budget _ c.args.budget _ after s }
 
 pub choose-requires : goal.choose-requires
 choose-requires c =
@@ -101,7 +122,9 @@ pub returns : goal.returns
 returns c =
     let at = goal.at.returns c in
     let reached = reached_all at.In_ok-saturated (none_left at.In_default) (last_job at.In_ok-job-2) in
-    minimising_solves c.args.lat.now c.args.grading.now c.args.budget c.in_ok-saturated.saturated c.reduce.new.book
+    let s = table_solves c.args.lat.now c.args.grading.now c.args.budget c.choose.result c.choose.new.book c.requires.columns
+    (minimising_solves (rows_of c.args.lat.now) c.args.grading.now c.args.budget c.in_ok-saturated.saturated c.reduce.new.book
     (subst (λ (b : Book). IsReached (rows_of c.args.lat.now) c.args.grading.now c.args.budget (vectors_of c.in_ok-saturated.saturated.moves) c.in_ok-saturated.saturated b [])
     (sym c.in_ok-reduced.ensures.1) reached)
-    c.in_ok-reduced.reduced c.in_ok-reduced.ensures.0 c.choose.result c.choose.new.book c.choose.ensures
+    c.in_ok-reduced.reduced c.in_ok-reduced.ensures.0 c.choose.result c.choose.new.book c.choose.ensures) in
+    record { solved = s; budget = solves_by_budget _ c.args.budget _ c.choose.new.book s }

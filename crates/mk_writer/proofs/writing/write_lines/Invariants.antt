@@ -1,4 +1,4 @@
-use Rattle.std.proofs.Common.{◌≡◌, ◌+◌, ◌*◌, ◌≤◌, ◌++◌, true, vec_capacity}
+use Rattle.std.proofs.Common.{◌≡◌, ◌+◌, ◌*◌, ◌≤◌, ◌++◌, vec_capacity}
 use Rattle.mk_desk.specs.Folders.{WhereTold}
 use Rattle.mk_writer.specs.declared.line.TheConstants.{HEADER_ROOM, ENTRY_ROOM}
 use Rattle.mk_writer.proofs.Writings.{lines_so_far}

@@ -1,0 +1,278 @@
+use crate::runs::{INDEPENDENCE, MANY, MARGINS, NINE_MOVES, OTHER, assert_run};
+use mk_run::Status;
+use std::alloc::AllocGlobal;
+use std::process::Abort;
+use std::test::Fail;
+
+const CUBIC: &str = "2 4\n1 -2 1 0\n0 1 -2 1\n";
+
+const CUBIC_MOVES: &str = "3 4\n0 -1 2 -1\n-1 1 1 -1\n-1 2 -1 0\n";
+
+// A run for `P` over a lattice and one more file ends with this status: with this text as the answer, or as the line that is
+// said, without an older answer and over one.
+fn assert_project<'a>(
+    rt: &(impl Abort + AllocGlobal),
+    lattice: &'a str,
+    beside: (&'a str, &'a str),
+    status: Status,
+    text: &'a str,
+) -> Result<(), Fail> {
+    let given = ("P.lat", lattice);
+    let older = ("P.mar", "7 7\nan older answer\n");
+    let made = ("P.mar", text);
+    if status == Status::Done {
+        let wanted = (status, "");
+        let after = &[given, beside, made];
+        assert_run(rt, &["P"], &[given, beside], MANY, &[], wanted, after)?;
+        assert_run(
+            rt,
+            &["P"],
+            &[given, beside, older],
+            MANY,
+            &[],
+            wanted,
+            after,
+        )?;
+    } else {
+        let wanted = (status, text);
+        let alone = &[given, beside];
+        let over = &[given, beside, older];
+        assert_run(rt, &["P"], alone, MANY, &[], wanted, alone)?;
+        assert_run(rt, &["P"], over, MANY, &[], wanted, over)?;
+    }
+    Ok(())
+}
+
+// Answers worked by hand or found from lists of whole fibres: a move whose lead and tail aren't joined by the moves before it.
+#[test]
+fn lattices_have_their_answer(rt: HostRuntime) -> Result<(), Fail> {
+    let rows = [
+        // No rows, no columns, one row.
+        ("0 4\n", OTHER, "0 4\n"),
+        ("0 0\n", OTHER, "0 0\n"),
+        ("1 3\n0 0 0\n", OTHER, "0 3\n"),
+        ("1 2\n2 -2\n", OTHER, "1 2\n2 -2\n"),
+        ("1 3\n1 2 -3\n", OTHER, "1 3\n1 2 -3\n"),
+        (
+            "1 8\n-1 1 1 -1 1 -1 -1 1\n",
+            OTHER,
+            "1 8\n1 -1 -1 1 -1 1 1 -1\n",
+        ),
+        (
+            "1 2\n9223372036854775807 -9223372036854775807\n",
+            OTHER,
+            "1 2\n9223372036854775807 -9223372036854775807\n",
+        ),
+        // Rows that are bases of their lattices or not, and moves beyond the rows. White space is free.
+        (CUBIC, OTHER, CUBIC_MOVES),
+        ("2 4\n  1 -2  1  0\n  0  1 -2  1\n\n\n", OTHER, CUBIC_MOVES),
+        ("2 3\n1 -1 0\n0 1 -1\n", OTHER, "2 3\n0 1 -1\n1 0 -1\n"),
+        ("2 3\n2 -2 0\n0 2 -2\n", OTHER, "2 3\n0 2 -2\n2 0 -2\n"),
+        ("3 2\n1 -1\n2 -2\n1 -1\n", OTHER, "1 2\n1 -1\n"),
+        (
+            "2 4\n2 -3 1 0\n0 2 -3 1\n",
+            OTHER,
+            "3 4\n0 -2 3 -1\n-2 1 2 -1\n-2 3 -1 0\n",
+        ),
+        // The reduced basis has a move more.
+        ("2 3\n3 -1 -2\n1 1 -2\n", OTHER, "2 3\n1 1 -2\n2 -2 0\n"),
+        (
+            "2 4\n2 1 -3 0\n0 1 1 -2\n",
+            OTHER,
+            "2 4\n0 1 1 -2\n2 1 -3 0\n",
+        ),
+        // Leads that overlap, each two of the rows'.
+        (
+            "3 4\n1 1 -1 -1\n1 -1 1 -1\n1 -1 -1 1\n",
+            OTHER,
+            "6 4\n0 0 2 -2\n-1 1 1 -1\n1 -1 1 -1\n0 2 0 -2\n1 1 -1 -1\n2 0 0 -2\n",
+        ),
+        // A lattice has one answer for each of its bases: rows exchanged, negated, and replaced by sums.
+        ("2 4\n0 1 -2 1\n1 -2 1 0\n", OTHER, CUBIC_MOVES),
+        ("2 4\n-1 2 -1 0\n0 -1 2 -1\n", OTHER, CUBIC_MOVES),
+        ("2 4\n1 -1 -1 1\n0 1 -2 1\n", OTHER, CUBIC_MOVES),
+        (INDEPENDENCE, OTHER, NINE_MOVES),
+        (
+            "4 9\n1 0 -1 -1 0 1 0 0 0\n0 1 -1 0 -1 1 0 0 0\n0 0 0 1 -1 0 -1 1 0\n0 0 0 0 1 -1 0 -1 1\n",
+            OTHER,
+            NINE_MOVES,
+        ),
+        (
+            "4 9\n0 0 0 0 1 -1 0 -1 1\n0 -1 1 0 1 -1 0 0 0\n0 0 0 -1 1 0 1 -1 0\n1 -1 0 -1 1 0 0 0 0\n",
+            OTHER,
+            NINE_MOVES,
+        ),
+        // A grade goes before all ones, and these go before a matrix: the order of moves tells which it was.
+        (
+            "2 4\n1 -1 0 0\n0 0 1 -1\n",
+            OTHER,
+            "2 4\n0 0 1 -1\n1 -1 0 0\n",
+        ),
+        (
+            "2 4\n1 -1 0 0\n0 0 1 -1\n",
+            ("P.mat", "1 4\n1 1 2 2\n"),
+            "2 4\n0 0 1 -1\n1 -1 0 0\n",
+        ),
+        (
+            "2 4\n1 -1 0 0\n0 0 1 -1\n",
+            ("P.grade", "1 4\n1 1 2 2\n"),
+            "2 4\n1 -1 0 0\n0 0 1 -1\n",
+        ),
+        // The grading comes from the margins, from a grade, or from a matrix.
+        (INDEPENDENCE, ("P.mat", MARGINS), NINE_MOVES),
+        (
+            "2 3\n1 -2 1\n3 -1 -1\n",
+            ("P.grade", "1 3\n3 4 5\n"),
+            "3 3\n-1 2 -1\n3 -1 -1\n2 1 -2\n",
+        ),
+        (
+            "2 3\n2 -1 0\n1 1 -1\n",
+            ("P.mat", "1 3\n1 2 3\n"),
+            "2 3\n2 -1 0\n1 1 -1\n",
+        ),
+    ];
+    for (lattice, beside, answer) in rows {
+        assert_project(&rt, lattice, beside, Status::Done, answer)?;
+    }
+    Ok(())
+}
+
+// What is wrong with a lattice, with a file beside it, or with the two together; and where an entry leaves its range.
+#[test]
+fn lattices_are_refused_with_their_line(rt: HostRuntime) -> Result<(), Fail> {
+    let rows = [
+        // No table.
+        (
+            "",
+            OTHER,
+            Status::Input,
+            "markov: P.lat: line 1, byte 0: 0 of 2 header numbers\n",
+        ),
+        (
+            "2\n",
+            OTHER,
+            Status::Input,
+            "markov: P.lat: line 2, byte 2: 1 of 2 header numbers\n",
+        ),
+        (
+            "-1 2\n",
+            OTHER,
+            Status::Input,
+            "markov: P.lat: line 1, byte 0: not a number\n",
+        ),
+        (
+            "1 2\n1 +-1\n",
+            OTHER,
+            Status::Input,
+            "markov: P.lat: line 2, byte 6: not a number\n",
+        ),
+        (
+            "4097 1\n",
+            OTHER,
+            Status::Input,
+            "markov: P.lat: line 1, byte 0: more than 4096 rows\n",
+        ),
+        (
+            "1 513\n0\n",
+            OTHER,
+            Status::Input,
+            "markov: P.lat: line 1, byte 2: more than 512 columns\n",
+        ),
+        (
+            "1 2\n9223372036854775808 -1\n",
+            OTHER,
+            Status::Input,
+            "markov: P.lat: line 2, byte 4: number out of range\n",
+        ),
+        (
+            "1 2\n1 -9223372036854775808\n",
+            OTHER,
+            Status::Input,
+            "markov: P.lat: line 2, byte 6: number out of range\n",
+        ),
+        (
+            "2 4\n1 -2 1 0\n0 1 -2\n",
+            OTHER,
+            Status::Input,
+            "markov: P.lat: line 4, byte 20: 7 of 8 entries\n",
+        ),
+        (
+            "2 4\n1 -2 1 0\n0 1 -2 1\nx\n",
+            OTHER,
+            Status::Input,
+            "markov: P.lat: line 4, byte 22: text after the last entry\n",
+        ),
+        (
+            CUBIC,
+            ("P.mat", "1 4\n1 1 1 2147483648\n"),
+            Status::Input,
+            "markov: P.mat: line 2, byte 10: number out of range\n",
+        ),
+        (
+            CUBIC,
+            ("P.grade", "1 4\n1 1 1\n"),
+            Status::Input,
+            "markov: P.grade: line 3, byte 10: 3 of 4 entries\n",
+        ),
+        // No grading.
+        (
+            "1 2\n1 1\n",
+            OTHER,
+            Status::Input,
+            "markov: P: no positive grading found\n",
+        ),
+        (
+            "1 2\n1 1\n",
+            ("P.grade", "1 2\n1 1\n"),
+            Status::Input,
+            "markov: P.grade: product with P.lat row 1 is 2\n",
+        ),
+        (
+            "1 2\n1 -1\n",
+            ("P.grade", "1 2\n0 1\n"),
+            Status::Input,
+            "markov: P.grade: column 1 is 0\n",
+        ),
+        (
+            "1 2\n1 -1\n",
+            ("P.grade", "1 3\n1 1 1\n"),
+            Status::Input,
+            "markov: P.grade: 1 rows and 3 columns, 1 and 2 wanted\n",
+        ),
+        (
+            CUBIC,
+            ("P.mat", "1 4\n1 2 3 5\n"),
+            Status::Input,
+            "markov: P.mat: row 1 times P.lat row 2 is 1\n",
+        ),
+        (
+            CUBIC,
+            ("P.mat", "1 3\n1 2 3\n"),
+            Status::Input,
+            "markov: P.mat: 3 columns, P.lat has 4\n",
+        ),
+        // An entry leaves its range, in the difference of a pair, in a step of its reduction, and in one on a tail.
+        (
+            "2 4\n1 4611686018427387905 0 -4611686018427387906\n1 -4611686018427387905 4611686018427387905 -1\n",
+            OTHER,
+            Status::Overflow,
+            "markov: overflow in column 2: 4611686018427387905 - (1) * (-4611686018427387905)\n",
+        ),
+        (
+            "2 3\n0 -4611686018427387903 4611686018427387903\n4611686018427387903 -9223372036854775806 -4611686018427387903\n",
+            ("P.grade", "1 3\n3 1 1\n"),
+            Status::Overflow,
+            "markov: overflow in column 3: 9223372036854775806 - (1) * (-4611686018427387903)\n",
+        ),
+        (
+            "3 4\n2305843009213693950 0 1152921504606846975 -4611686018427387900\n0 1152921504606846975 1152921504606846975 -1152921504606846975\n0 2305843009213693950 -3458764513820540925 0\n",
+            ("P.grade", "1 4\n9 3 2 5\n"),
+            Status::Overflow,
+            "markov: overflow in column 3: 0 - (-3) * (-3458764513820540925)\n",
+        ),
+    ];
+    for (lattice, beside, status, line) in rows {
+        assert_project(&rt, lattice, beside, status, line)?;
+    }
+    Ok(())
+}

@@ -57,16 +57,16 @@ fn a_difference_reduces_to_zero(rt: HostRuntime) -> Result<(), Fail> {
 #[test]
 fn a_difference_leaves_the_range(rt: HostRuntime) -> Result<(), Fail> {
     let text = "2 4
-        1 4611686018427387905 0 -4611686018427387906
-        1 -4611686018427387905 4611686018427387905 -1";
+        1 604462909807314587353089 0 -604462909807314587353090
+        1 -604462909807314587353089 604462909807314587353089 -1";
     let basis = standard_start(&rt, text, 2)?;
     let refused = Stop::Overflow {
         by: None,
         at: OverflowAt {
             column: 1,
-            left: -4611686018427387905,
+            left: -604462909807314587353089,
             times: 1,
-            right: 4611686018427387905,
+            right: 604462909807314587353089,
         },
     };
     let outcome = critical(rt.alloc(), &basis, 0, 1);

@@ -33,7 +33,7 @@ impl From<AllocError> for MoveFault {
 }
 
 /// How many entries lie in the move itself.
-const INLINE: usize = 16;
+const INLINE: usize = 8;
 
 pub(crate) type Entries = SmallVec<Entry, INLINE>;
 

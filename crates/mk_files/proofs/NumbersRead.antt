@@ -1,7 +1,8 @@
 -- Tokens, and the one number that a token writes.
-use Rattle.std.proofs.Common.{◌≡◌, ℕ, ◌-◌, ◌^◌, ◌<◌, List, ◌∷◌, get_or, ℤ, pos, neg_ℤ, inl, inr, refl, sym, ap, subst, ◌∙◌, arith}
+use Rattle.std.proofs.Common.{◌≡◌, ℕ, ◌<ℤ◌, List, ◌∷◌, get_or, ℤ, pos, neg_ℤ, inl, inr, refl, sym, ap, subst, ◌∙◌, arith}
 use Rattle.std.specs.Str.Parse.{digits_value}
 use Rattle.std.proofs.lemmas.Int.{ints}
+use Rattle.mk_model.specs.declared.TheConstants.{ENTRY_MAX}
 use Rattle.mk_model.specs.Tables.{AreDigits, IsNumber}
 use Rattle.mk_model.proofs.TokenNumbers.{minus_no_count}
 use Rattle.mk_files.specs.Numbers.{without_plus, NumberBeyond}
@@ -27,10 +28,10 @@ pub IsNumber-other : (token : List ℕ) → AreDigits (without_plus token) → I
 IsNumber-other token are = inl (digits_value 10 (without_plus token), refl, IsCount-from token are)
 
 -- the digits of a number too large for an entry
-pub minus_beyond : (digits : List ℕ) → AreDigits digits × (2 ^ 63 - 1 < digits_value 10 digits) → NumberBeyond (45 ∷ digits)
+pub minus_beyond : (digits : List ℕ) → AreDigits digits × (ENTRY_MAX <ℤ pos (digits_value 10 digits)) → NumberBeyond (45 ∷ digits)
 minus_beyond digits (are, large) =
     (neg_ℤ (pos (digits_value 10 digits)), IsNumber-minus digits are, inl (omega (arith, ints)))
 
-pub other_beyond : (token digits : List ℕ) → digits ≡ without_plus token → AreDigits digits × (2 ^ 63 - 1 < digits_value 10 digits) → NumberBeyond token
+pub other_beyond : (token digits : List ℕ) → digits ≡ without_plus token → AreDigits digits × (ENTRY_MAX <ℤ pos (digits_value 10 digits)) → NumberBeyond token
 other_beyond token digits e (are, large) =
     (pos (digits_value 10 (without_plus token)), IsNumber-other token (subst AreDigits e are), inr (omega (arith, ints, ap (digits_value 10) e)))

@@ -1,4 +1,4 @@
-ghost use Rattle.std.specs.Prelude.{◌≡◌, ◌-◌, ◌^◌, ◌≤◌, ◌<◌, min, pos, neg_ℤ, ◌≤ℤ◌, IfSome, IfNone, IfOk, IsErrOf};
+ghost use Rattle.std.specs.Prelude.{◌≡◌, ◌≤◌, min, pos, neg_ℤ, ◌≤ℤ◌, ◌<ℤ◌, IfSome, IfNone, IfOk, IsErrOf};
 ghost use Rattle.std.specs.Str.Parse.{digits_value};
 ghost use Rattle.mk_model.specs.Tables.{AreDigits, IsCount, IsNumber};
 ghost use Rattle.mk_model.specs.TableFaults.{CountAbove, NoCount, EntryBeyond, NoNumber};
@@ -17,23 +17,24 @@ pub enum NumberFault {
     OutOfRange,
 }
 
-/// The number that the digits write, or `u64::MAX` where it is larger.
-fn magnitude(digits: &[u8]) -> Option<u64>
+/// The least number that is larger than each entry.
+const BEYOND: u128 = ENTRY_MAX as u128 + 1;
+
+/// The number that the digits write, or `BEYOND` where it is larger.
+fn magnitude(digits: &[u8]) -> Option<u128>
     ensures found { IfSome result
-        (λ n. AreDigits digits.now × (n ≡ min (digits_value 10 digits.now) (2 ^ 64 - 1))) }
+        (λ n. AreDigits digits.now × (n ≡ min (digits_value 10 digits.now) BEYOND)) }
     ensures none { IfNone result (AreDigits digits.now → ⊥) }
 {
     if digits.is_empty() {
         return None;
     }
-    let mut value: u64 = 0;
+    let mut value: u128 = 0;
     for digit in digits {
         if !digit.is_ascii_digit() {
             return None;
         }
-        value = value
-            .saturating_mul(10)
-            .saturating_add(u64::from(*digit - b'0'));
+        value = (value * 10 + u128::from(*digit - b'0')).min(BEYOND);
     }
     Some(value)
 }
@@ -57,7 +58,7 @@ pub fn count_of(token: &[u8], most: u32) -> Result<u32, NumberFault>
     let Some(count) = magnitude(without_plus_sign(token)) else {
         return Err(NumberFault::NoNumber);
     };
-    if count <= u64::from(most) {
+    if count <= u128::from(most) {
         Ok(count as u32)
     } else {
         Err(NumberFault::OutOfRange)
@@ -70,12 +71,12 @@ fn entry_of_digits(digits: &[u8]) -> Result<Entry, NumberFault>
         (λ z. AreDigits digits.now × (z ≡ pos (digits_value 10 digits.now)) × IsEntry z) }
     ensures no_number { IsErrOf result NumberFault.NoNumber → AreDigits digits.now → ⊥ }
     ensures out_of_range { IsErrOf result NumberFault.OutOfRange
-        → AreDigits digits.now × (2 ^ 63 - 1 < digits_value 10 digits.now) }
+        → AreDigits digits.now × (ENTRY_MAX <ℤ pos (digits_value 10 digits.now)) }
 {
     let Some(value) = magnitude(digits) else {
         return Err(NumberFault::NoNumber);
     };
-    if value <= ENTRY_MAX as u64 {
+    if value < BEYOND {
         Ok(value as Entry)
     } else {
         Err(NumberFault::OutOfRange)

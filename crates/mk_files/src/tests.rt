@@ -1,5 +1,5 @@
 use crate::{Bounds, Place, TableFault, read_table};
-use mk_model::ENTRY_MAX;
+use mk_model::{ENTRY_MAX, Entry};
 use std::test::Fail;
 
 const BOUNDS: Bounds = Bounds {
@@ -13,7 +13,7 @@ fn fault_of(rt: &HostRuntime, bytes: &[u8]) -> Option<TableFault> {
     read_table(rt.alloc(), bytes, &BOUNDS).err()
 }
 
-fn is_one_row(rt: &HostRuntime, bytes: &[u8], entries: &[i64]) -> bool {
+fn is_one_row(rt: &HostRuntime, bytes: &[u8], entries: &[Entry]) -> bool {
     match read_table(rt.alloc(), bytes, &BOUNDS) {
         Ok(table) => table.rows() == 1 && table.row(0) == entries,
         Err(_) => false,
@@ -84,14 +84,14 @@ fn tells_more_rows_or_columns_than_allowed(rt: HostRuntime) {
 
 #[test]
 fn reads_the_largest_entries_and_no_larger(rt: HostRuntime) {
-    let largest = b"1 2\n9223372036854775807 -9223372036854775807\n";
+    let largest = b"1 2\n1208925819614629174706175 -1208925819614629174706175\n";
     assert!(rt; is_one_row(&rt, largest, &[ENTRY_MAX, -ENTRY_MAX]));
     assert_eq!(rt;
-        fault_of(&rt, b"1 2\n9223372036854775808 -1\n"),
+        fault_of(&rt, b"1 2\n1208925819614629174706176 -1\n"),
         Some(TableFault::EntryRange(at(2, 4)))
     );
     assert_eq!(rt;
-        fault_of(&rt, b"1 2\n1 -9223372036854775808\n"),
+        fault_of(&rt, b"1 2\n1 -1208925819614629174706176\n"),
         Some(TableFault::EntryRange(at(2, 6)))
     );
 }

@@ -47,6 +47,10 @@ module _ (lat : Grid) (mat grade : Option Grid) where
     refused = λ fault k. inr refl;
   }
 
+  pub answers_refusal : (fault : GradeFault) → (fault ≡ Memory) ⊎ IsGradeFault lat mat grade fault → Answers (Err fault)
+  answers_refusal fault (inl e) = subst (λ (f : GradeFault). Answers (Err f)) (sym e) answers_memory
+  answers_refusal fault (inr h) = answers_cause fault h
+
 module _ (lat : Grid) (mat : Option Grid) (fits : IfSome mat (FitsMatrix lat)) where
   -- what is answered without a grade
   pub without_grade : (r : Result (List ℤ) GradeFault) → IsSourced lat mat r → Answers lat mat None r

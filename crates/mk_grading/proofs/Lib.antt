@@ -5,4 +5,5 @@ pub mod OneChoice
 pub mod RowsAdded
 pub mod RowsRead
 pub mod RowsSummed
+pub mod SmallEntries
 pub mod SourcesTried

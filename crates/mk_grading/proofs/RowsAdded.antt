@@ -8,7 +8,8 @@ use Rattle.std.proofs.lemmas.Int.{ints, to_z-of_z, fits_signed_from_abs}
 use Rattle.mk_model.specs.Vectors.{entry, add}
 use Rattle.mk_model.specs.ChosenGradings.{IsSmallEntry}
 use Rattle.mk_model.proofs.VectorAlgebra.{length-add, entry-add}
-use Rattle.mk_move.proofs.Weights.{abs_from_bounds}
+use Rattle.mk_move.proofs.Entries.{as_entry, abs_from_bounds}
+use Rattle.mk_grading.proofs.SmallEntries.{small_read}
 
 -- what the sums may be before a row is added
 abbrev pub IsSumSoFar : ℤ → Type 0
@@ -40,13 +41,12 @@ all_added before row sums n same few h =
     (λ k l. h.done k (omega (arith, h.as_long)) ∙ sym (entry-add before row k))
 
 -- what the code's sum of a column gives
-pub sum_read : (x s a : ℤ) → IsSumSoFar x → IsSmallEntry a → s ≡ x → to_z w64 (of_z w64 (to_z w64 (of_z w64 s) +ℤ to_z w64 (of_z w64 a))) ≡ x +ℤ a
+pub sum_read : (x s a : ℤ) → IsSumSoFar x → IsSmallEntry a → s ≡ x → to_z w64 (of_z w64 (to_z w64 (of_z w64 s) +ℤ to_z w64 (of_z w64 (as_entry a)))) ≡ x +ℤ a
 sum_read x s a h l e =
     let fits_x : SFits w64 x = fits_signed_from_abs w64 x (omega (arith, abs_from_bounds x (2 ^ 62) (omega (arith, ints, h.0)) h.1)) in
-    let fits_a : SFits w64 a = fits_signed_from_abs w64 a (omega (arith, abs_from_bounds a 2147483647 l.0 l.1)) in
     let fits : SFits w64 (x +ℤ a) =
     fits_signed_from_abs w64 (x +ℤ a) (omega (arith, abs_from_bounds (x +ℤ a) (2 ^ 62 + 2147483647) (omega (arith, ints, h.0, l.0)) (omega (arith, ints, h.1, l.1)))) in
-    ap (λ (z : ℤ). to_z w64 (of_z w64 (to_z w64 (of_z w64 z) +ℤ to_z w64 (of_z w64 a)))) e
-    ∙ ap (λ (z : ℤ). to_z w64 (of_z w64 (z +ℤ to_z w64 (of_z w64 a)))) (to_z-of_z w64 x fits_x)
-    ∙ ap (λ (z : ℤ). to_z w64 (of_z w64 (x +ℤ z))) (to_z-of_z w64 a fits_a)
+    ap (λ (z : ℤ). to_z w64 (of_z w64 (to_z w64 (of_z w64 z) +ℤ to_z w64 (of_z w64 (as_entry a))))) e
+    ∙ ap (λ (z : ℤ). to_z w64 (of_z w64 (z +ℤ to_z w64 (of_z w64 (as_entry a))))) (to_z-of_z w64 x fits_x)
+    ∙ ap (λ (z : ℤ). to_z w64 (of_z w64 (x +ℤ z))) (small_read a l)
     ∙ to_z-of_z w64 (x +ℤ a) fits

@@ -6,7 +6,7 @@ ghost use Rattle.mk_grading.specs.Choices.{IsGradeFault};
 ghost use Rattle.mk_grading.specs.declared.fault.GradeFault.{GradeFault};
 
 use crate::fault::GradeFault;
-use crate::given::{check_grade, check_matrix};
+use crate::given::{check_matrix, weights_of};
 use crate::products::first_product;
 use crate::sums::sum_of_rows;
 use mk_files::Table;
@@ -34,12 +34,12 @@ pub fn choose(
     ensures refused { (fault : GradeFault) → IsGradeFault lat.now (option_copied mat.entry) (option_copied grade.entry) fault →
         (result ≡ Err fault) ⊎ (result ≡ Err GradeFault.Memory) }
 {
-    check_matrix(lat, mat)?;
+    check_matrix(alloc, lat, mat)?;
     let Some(given) = grade else {
         return ones_or_sum(alloc, lat, mat);
     };
-    check_grade(lat, given)?;
-    grading_of(alloc, given.row(0))
+    let weights = weights_of(alloc, lat, given)?;
+    grading_of(alloc, &weights)
 }
 
 /// The grading of a lattice that comes without a grade, beside which a matrix may be given.

@@ -39,6 +39,6 @@ fn add_row(sums: &mut [i64], row: &[Entry])
     ensures { sums.new ≡ add sums.old row.now }
 {
     for (column, entry) in row.iter().enumerate() {
-        sums[column] += *entry;
+        sums[column] += *entry as i64;
     }
 }

@@ -2,6 +2,7 @@
 use Rattle.std.proofs.Common.{◌≡◌, ℕ, zero, suc, ◌<◌, List, [], ◌∷◌, length, All, ℤ, pos, negsuc, ◌+ℤ◌, ◌*ℤ◌, ◌≤ℤ◌, arith, ap, refl, ◌∙◌}
 use Rattle.std.proofs.lemmas.List.{get_or-replicate, length-replicate}
 use Rattle.std.proofs.lemmas.Int.{ints}
+use Rattle.mk_model.specs.declared.TheConstants.{ENTRY_MAX}
 use Rattle.mk_model.specs.Vectors.{entry, combine, add, scale, weight, IsPoint, IsEntry}
 use Rattle.mk_model.specs.Lattices.{lattice_of, combination, InLattice, HasGrading, ones, SameLattice}
 use Rattle.mk_model.specs.Worked.{unit_move, double_move, like_rows, like_second, steep_first, steep_second, steep_weights, steep_lattice}
@@ -51,8 +52,8 @@ grading = record {
 pub not_point : ¬ (IsPoint 4 (pos 2 ∷ negsuc 1 ∷ pos 1 ∷ pos 1 ∷ []))
 not_point p = omega (arith, ints, p.nonnegative 1)
 
-pub largest : IsEntry (pos 9223372036854775807)
+pub largest : IsEntry ENTRY_MAX
 largest = (record { le = tt }, record { le = tt })
 
-pub too_large : ¬ (IsEntry (pos 9223372036854775808))
+pub too_large : ¬ (IsEntry (ENTRY_MAX +ℤ pos 1))
 too_large (h, k) = omega (arith, ints, k)

@@ -1,5 +1,6 @@
 -- What the worked examples speak of, each thing named once.
-use Rattle.std.specs.Prelude.{◌≡◌, ℕ, List, [], ◌∷◌, ◌++◌, None, Some, codes, ℤ, pos, neg_ℤ}
+use Rattle.std.specs.Prelude.{◌≡◌, ℕ, List, [], ◌∷◌, ◌++◌, None, Some, codes, ℤ, pos, neg_ℤ, ◌+ℤ◌, ◌-ℤ◌, int_div}
+use Rattle.mk_model.specs.declared.TheConstants.{ENTRY_MAX}
 use Rattle.mk_model.specs.Lattices.{Lattice, lattice_of, ones}
 use Rattle.mk_model.specs.Tables.{Grid, Limits}
 use Rattle.mk_model.specs.CoreStates.{Settle, pair_of, settle, CoreState, claim_of, halt_of, new_state, phase_state, Halt, OverflowStop, stop_at}
@@ -152,7 +153,7 @@ square_table = worked_table 2 2 (pos 1 ∷ neg_ℤ (pos 1) ∷ pos 0 ∷ pos 0 �
 
 -- what a lattice's table may have
 abbrev pub wide_limits : Limits
-wide_limits = record { rows = 4096; columns = 512; least = neg_ℤ (pos 9223372036854775807); most = pos 9223372036854775807 }
+wide_limits = record { rows = 4096; columns = 512; least = neg_ℤ ENTRY_MAX; most = ENTRY_MAX }
 
 -- at most one row of two columns, with entries from 0 to 9
 abbrev pub digit_limits : Limits
@@ -206,40 +207,40 @@ chain_moves =
     (pos 1 ∷ pos 1 ∷ neg_ℤ (pos 1) ∷ neg_ℤ (pos 1) ∷ [])
     ∷ (pos 1 ∷ neg_ℤ (pos 1) ∷ pos 1 ∷ neg_ℤ (pos 1) ∷ []) ∷ cubic_third ∷ []
 
--- ---- overflows: 9223372036854775807 less -1, in the difference of a pair
+-- ---- overflows: the largest entry less -1, in the difference of a pair
 abbrev pub far_moves : List (List ℤ)
-far_moves = (neg_ℤ (pos 1) ∷ pos 3 ∷ neg_ℤ (pos 1) ∷ []) ∷ (pos 9223372036854775807 ∷ pos 1 ∷ neg_ℤ (pos 4611686018427387904) ∷ []) ∷ []
+far_moves = (neg_ℤ (pos 1) ∷ pos 3 ∷ neg_ℤ (pos 1) ∷ []) ∷ (ENTRY_MAX ∷ pos 1 ∷ neg_ℤ ENTRY_MAX ∷ []) ∷ []
 
 abbrev pub far_state : CoreState
 far_state = new_state far_moves 3 3 2
 
 abbrev pub difference_stop : OverflowStop
-difference_stop = stop_at (pair_of 0 1) None None 0 (pos 9223372036854775807) (pos 1) (neg_ℤ (pos 1))
+difference_stop = stop_at (pair_of 0 1) None None 0 ENTRY_MAX (pos 1) (neg_ℤ (pos 1))
 
--- and 9223372036854775803 less -5, in a step by (5 -5 0 0) from (5 9223372036854775803 -9223372036854775807 -1)
+-- and the largest less 4, from which -5 is taken in a step by (5 -5 0 0)
 abbrev pub step_taken : List ℤ
 step_taken = pos 5 ∷ neg_ℤ (pos 5) ∷ pos 0 ∷ pos 0 ∷ []
 
 abbrev pub step_from : List ℤ
-step_from = pos 5 ∷ pos 9223372036854775803 ∷ neg_ℤ (pos 9223372036854775807) ∷ neg_ℤ (pos 1) ∷ []
+step_from = pos 5 ∷ (ENTRY_MAX -ℤ pos 4) ∷ neg_ℤ ENTRY_MAX ∷ neg_ℤ (pos 1) ∷ []
 
 abbrev pub step_moves : List (List ℤ)
 step_moves =
     (neg_ℤ (pos 5) ∷ pos 4 ∷ pos 0 ∷ pos 1 ∷ [])
-    ∷ (pos 0 ∷ pos 9223372036854775807 ∷ neg_ℤ (pos 9223372036854775807) ∷ pos 0 ∷ []) ∷ step_taken ∷ []
+    ∷ (pos 0 ∷ ENTRY_MAX ∷ neg_ℤ ENTRY_MAX ∷ pos 0 ∷ []) ∷ step_taken ∷ []
 
 abbrev pub step_stop : OverflowStop
-step_stop = stop_at (pair_of 0 1) (Some 2) (Some step_from) 1 (pos 9223372036854775803) (pos 1) (neg_ℤ (pos 5))
+step_stop = stop_at (pair_of 0 1) (Some 2) (Some step_from) 1 (ENTRY_MAX -ℤ pos 4) (pos 1) (neg_ℤ (pos 5))
 
--- and -9223372036854775807 less 1, in a step on the tail of (4611686018427387904 -1 -9223372036854775807) by (0 1 -1)
+-- and the negative of the largest less 1, in a step on a tail by (0 1 -1)
 abbrev pub tail_heavy : List ℤ
-tail_heavy = pos 4611686018427387904 ∷ neg_ℤ (pos 1) ∷ neg_ℤ (pos 9223372036854775807) ∷ []
+tail_heavy = int_div (ENTRY_MAX +ℤ pos 1) (pos 2) ∷ neg_ℤ (pos 1) ∷ neg_ℤ ENTRY_MAX ∷ []
 
 abbrev pub tail_moves : List (List ℤ)
 tail_moves = tail_heavy ∷ like_first ∷ []
 
 abbrev pub tail_stop : OverflowStop
-tail_stop = stop_at (pair_of 0 0) (Some 1) (Some tail_heavy) 2 (neg_ℤ (pos 9223372036854775807)) (neg_ℤ (pos 1)) (neg_ℤ (pos 1))
+tail_stop = stop_at (pair_of 0 0) (Some 1) (Some tail_heavy) 2 (neg_ℤ ENTRY_MAX) (neg_ℤ (pos 1)) (neg_ℤ (pos 1))
 
 -- ---- books: of the lattice of (1 -1), whose phases have no pair
 abbrev pub unit_lattice : Lattice

@@ -1,8 +1,9 @@
 //! Worked examples of the definitions. Each is the contract of a function that takes nothing and
 //! gives nothing. The vectors and tables that have a name stand in `specs/Worked.antt`.
 
-ghost use Rattle.std.specs.Prelude.{◌≡◌, ◌==◌, ℕ, ℤ, true, false, List, [], ◌∷◌, ◌++◌, None, Some, All, AllPairs, pos, neg_ℤ, codes};
+ghost use Rattle.std.specs.Prelude.{◌≡◌, ◌==◌, ℕ, ℤ, true, false, List, [], ◌∷◌, ◌++◌, None, Some, All, AllPairs, pos, neg_ℤ, ◌+ℤ◌, codes};
 ghost use Rattle.std.specs.Int.{int_max};
+ghost use Rattle.mk_model.specs.declared.TheConstants.{ENTRY_MAX};
 ghost use Rattle.mk_model.specs.Vectors.{entry, zeros, combine, add, subtract, negate, scale, positive_part, negative_part, weight, IsEntry, IsPoint};
 ghost use Rattle.mk_model.specs.Lattices.{lattice_of, InLattice, HasGrading, nonzero_rows, ones, SameLattice};
 ghost use Rattle.mk_model.specs.ChosenGradings.{IsGradeOf, matrix_sum, HasOtherColumns, IsMatrixMismatch, HasOtherShape, IsFirstBelowOne, IsGradeMismatch, HasNoSource};
@@ -59,8 +60,8 @@ pub fn vector_examples()
     ensures weight_five { weight steep_weights (pos 3 ∷ neg_ℤ (pos 1) ∷ pos 0 ∷ []) ≡ pos 5 }
     ensures point { IsPoint 4 cubic_outer }
     ensures not_point { ¬ (IsPoint 4 (pos 2 ∷ neg_ℤ (pos 2) ∷ pos 1 ∷ pos 1 ∷ [])) }
-    ensures largest { IsEntry (pos 9223372036854775807) }
-    ensures too_large { ¬ (IsEntry (pos 9223372036854775808)) }
+    ensures largest { IsEntry ENTRY_MAX }
+    ensures too_large { ¬ (IsEntry (ENTRY_MAX +ℤ pos 1)) }
 {}
 
 /// Vectors of lattices, rows that are not zero, two bases of one lattice, and a grading.
@@ -274,9 +275,9 @@ pub fn chain_examples()
     ensures too_early { ¬ (IsChain chain_moves (settle 0 (pair_of 0 2) Zero ∷ []) (pair_of 0 1) 2) }
 {}
 
-/// Entries that leave the range: 9223372036854775807 less -1, in the difference of a pair;
-/// 9223372036854775803 less -5, in a step of reduction; and -9223372036854775807 less 1, in a step
-/// on a tail.
+/// Entries that leave the range: the largest less -1, in the difference of a pair; the largest less 4,
+/// from which -5 is taken in a step of reduction; and the negative of the largest less 1, in a step on
+/// a tail.
 pub fn overflow_examples()
     ensures difference { IsGenuineOverflow far_moves difference_stop }
     ensures step { IsGenuineOverflow step_moves step_stop }

@@ -33,10 +33,10 @@ pub use plain::{divides, is_below};
 use std::alloc::{AllocError, AllocFailed};
 
 /// An entry of a lattice or of a move: from `-ENTRY_MAX` to `ENTRY_MAX`.
-pub type Entry = i64;
+pub type Entry = i128;
 
-/// The largest entry, 2^63 - 1.
-pub const ENTRY_MAX: Entry = 9223372036854775807;
+/// The largest entry, 2^80 - 1.
+pub const ENTRY_MAX: Entry = 1208925819614629174706175;
 
 /// There is no memory left.
 #[derive(Clone, Copy, Debug, PartialEq, Eq)]

@@ -15,6 +15,7 @@ use Rattle.mk_model.proofs.VectorAlgebra.{lengths, columns, positive_part_at, en
 use Rattle.mk_move.specs.declared.side.Side.{Side}
 use Rattle.mk_move.specs.declared.side.Side.TheVariants.{Plus, Minus}
 use Rattle.mk_move.specs.Sides.{part_of, entry_on, IsMostTimes}
+use Rattle.mk_move.proofs.Entries.{most_entry}
 
 pub entry-part_of : (side : Side) (x : List ℤ) (c : ℕ) → entry (part_of side x) c ≡ entry_on side (entry x c)
 entry-part_of Plus x c = entry-positive_part x c
@@ -94,7 +95,7 @@ pub record IsTimesSoFar (lead row : List ℤ) (side : Side) (n : ℕ) (times : �
   pub count : ℕ
   pub value : times ≡ pos count
   pub some : 1 ≤ count
-  pub most : count ≤ 9223372036854775807
+  pub most : count ≤ most_entry
   pub below : (c : ℕ) → c < n → count * up (entry lead c) ≤ up (entry_on side (entry row c))
   pub greatest : (q : ℕ) → Divides (scale (pos q) (positive_part lead)) (part_of side row) → q ≤ count
 
@@ -130,30 +131,30 @@ up_most : (a : ℤ) (n : ℕ) → a ≤ℤ pos n → up a ≤ n
 up_most (pos m) n h = omega (arith, ints)
 up_most (negsuc m) n h = omega arith
 
-pub entry_on_most : (side : Side) (a : ℤ) → IsEntry a → up (entry_on side a) ≤ 9223372036854775807
-entry_on_most side a h = up_most (entry_on side a) 9223372036854775807 (entry_on_range side a h).1
+pub entry_on_most : (side : Side) (a : ℤ) → IsEntry a → up (entry_on side a) ≤ most_entry
+entry_on_most side a h = up_most (entry_on side a) most_entry (entry_on_range side a h).1
 
-no_times : (q x : ℕ) → 9223372036854775807 < q → q * x ≤ 9223372036854775807 → x ≡ 0
+no_times : (q x : ℕ) → most_entry < q → q * x ≤ most_entry → x ≡ 0
 no_times q zero h k = refl
 no_times q (suc x) h k = absurd (omega arith)
 
 pub times_at_first : (lead row : List ℤ) (side : Side) → All IsEntry row → positive_part lead ≢ zeros (length lead) → IsTimesSoFar lead row side 0 ENTRY_MAX
 times_at_first lead row side range some = record {
-  count = 9223372036854775807;
+  count = most_entry;
   value = refl;
   some = omega arith;
   most = omega arith;
   below = λ c h. absurd (omega arith);
-  greatest = λ q d. at q d (cases_lt 9223372036854775807 q);
+  greatest = λ q d. at q d (cases_lt most_entry q);
 }
   where
-    most : (c : ℕ) → up (entry_on side (entry row c)) ≤ 9223372036854775807
+    most : (c : ℕ) → up (entry_on side (entry row c)) ≤ most_entry
     most c = elim (cases_lt c (length row)) [
       | inl l ↦ entry_on_most side (entry row c) (range c (pos 0) l)
       | inr l ↦ entry_on_most side (entry row c) (subst IsEntry (sym (get_or_past row c (pos 0) l)) (omega (arith, ints), omega (arith, ints)))
     ]
 
-    at : (q : ℕ) → Divides (scale (pos q) (positive_part lead)) (part_of side row) → (9223372036854775807 < q) ⊎ (q ≤ 9223372036854775807) → q ≤ 9223372036854775807
+    at : (q : ℕ) → Divides (scale (pos q) (positive_part lead)) (part_of side row) → (most_entry < q) ⊎ (q ≤ most_entry) → q ≤ most_entry
     at q d (inr l) = l
     at q d (inl l) =
         let none : (c : ℕ) → entry (positive_part lead) c ≡ pos 0 =
@@ -208,6 +209,12 @@ times_less lead row side n times a b e positive f divides h = record {
 
     both : (q : ℕ) → q ≤ h.count → q ≤ a / b → q ≤ min h.count (a / b)
     both q k l = omega arith
+
+-- so many times are no more than an entry may be
+pub times_range : (lead row : List ℤ) (side : Side) (n : ℕ) (times : ℤ) → IsTimesSoFar lead row side n times → IsEntry times
+times_range lead row side n times h =
+    let range : IsEntry (pos h.count) = (omega (arith, ints), omega (arith, ints, h.most)) in
+    subst IsEntry (sym h.value) range
 
 pub times_whole : (lead row : List ℤ) (side : Side) (n : ℕ) (times : ℤ) → length lead ≤ n → IsTimesSoFar lead row side n times → IsMostTimes (positive_part lead) (part_of side row) times
 times_whole lead row side n times l h = record {

@@ -1,9 +1,11 @@
+pub mod Entries
 pub mod Weights
 pub mod StandardLists
 pub mod FirstLists
 pub mod Parts
 pub mod Divisions
 pub mod Readings
+pub mod Factors
 pub mod Comparisons
 pub mod Orientations
 pub mod Differences

@@ -1,5 +1,5 @@
 -- The product of a grading and a row, one column after another.
-use Rattle.std.proofs.Common.{◌≡◌, ℕ, zero, suc, ◌+◌, ◌*◌, ◌<◌, ◌≤◌, List, [], ◌∷◌, length, take, get_or, All, refl, ap, add-one, subst, ◌∙◌, sym, arith, ℤ, pos, negsuc, neg_ℤ, ◌+ℤ◌, ◌*ℤ◌, ◌≤ℤ◌, unsigned_abs, ◌^◌}
+use Rattle.std.proofs.Common.{◌≡◌, ℕ, zero, suc, ◌+◌, ◌*◌, ◌<◌, ◌≤◌, List, [], ◌∷◌, length, take, get_or, All, refl, ap, add-one, subst, ◌∙◌, sym, arith, ℤ, pos, neg_ℤ, ◌+ℤ◌, ◌*ℤ◌, ◌≤ℤ◌, unsigned_abs, ◌^◌}
 use Rattle.std.proofs.Math.Nat.{mul-le-mul}
 use mir.Syntax.{w64, w128}
 use mir.Val.{SFits, to_z, of_z}
@@ -9,6 +9,7 @@ use Rattle.std.proofs.lemmas.Int.{ints, unsigned_abs-mul, to_z-of_z, fits_signed
 use Rattle.mk_model.specs.Vectors.{weight, IsEntry}
 use Rattle.mk_model.specs.ChosenGradings.{IsSmallEntry}
 use Rattle.mk_move.specs.Gradings.{IsWeight, AreWeights}
+use Rattle.mk_move.proofs.Entries.{as_entry, most_entry, abs_bounds, abs_from_bounds, IsEntry-abs}
 
 -- the product of one column more
 pub weight_more : (w x : List ℤ) (i : ℕ) → i < length w → i < length x → weight (take (suc i) w) (take (suc i) x) ≡ weight (take i w) (take i x) +ℤ (get_or w i (pos 0) *ℤ get_or x i (pos 0))
@@ -20,18 +21,9 @@ weight_more (k ∷ w) (a ∷ x) (suc i) h l =
     let less = weight_more w x i (omega arith) (omega arith) in
     omega (arith, ints, less)
 
--- a number between minus n and n, by its absolute value
-pub abs_bounds : (z : ℤ) (n : ℕ) → unsigned_abs z ≤ n → (neg_ℤ (pos n) ≤ℤ z) × (z ≤ℤ pos n)
-abs_bounds (pos m) n h = (omega (arith, ints), omega (arith, ints))
-abs_bounds (negsuc m) n h = (omega (arith, ints), omega (arith, ints))
-
-pub abs_from_bounds : (z : ℤ) (n : ℕ) → neg_ℤ (pos n) ≤ℤ z → z ≤ℤ pos n → unsigned_abs z ≤ n
-abs_from_bounds (pos m) n h l = omega (arith, ints)
-abs_from_bounds (negsuc m) n h l = omega (arith, ints)
-
 -- the most that one column adds
 abbrev pub most_of_column : ℕ
-most_of_column = 2147483647 * 9223372036854775807
+most_of_column = 2147483647 * most_entry
 
 -- a weight is a small entry
 pub IsWeight-small : (k : ℤ) → IsWeight k → IsSmallEntry k
@@ -40,37 +32,31 @@ IsWeight-small k h = (omega (arith, ints, h.0), h.1)
 pub weights_small : (w : List ℤ) → All IsWeight w → All IsSmallEntry w
 weights_small w h = All-weaker IsWeight IsSmallEntry IsWeight-small w h
 
-small_bounds : (k a : ℤ) → IsSmallEntry k → IsEntry a → (neg_ℤ (pos most_of_column) ≤ℤ (k *ℤ a)) × ((k *ℤ a) ≤ℤ pos most_of_column)
+pub small_bounds : (k a : ℤ) → IsSmallEntry k → IsEntry a → (neg_ℤ (pos most_of_column) ≤ℤ (k *ℤ a)) × ((k *ℤ a) ≤ℤ pos most_of_column)
 small_bounds k a h l =
     let of_k : unsigned_abs k ≤ 2147483647 = abs_from_bounds k 2147483647 h.0 h.1 in
-    let of_a : unsigned_abs a ≤ 9223372036854775807 = abs_from_bounds a 9223372036854775807 l.0 l.1 in
-    abs_bounds (k *ℤ a) most_of_column (omega (arith, unsigned_abs-mul k a, mul-le-mul of_k of_a))
+    abs_bounds (k *ℤ a) most_of_column (omega (arith, unsigned_abs-mul k a, mul-le-mul of_k (IsEntry-abs a l)))
 
-pub product_bounds : (k a : ℤ) → IsWeight k → IsEntry a → (neg_ℤ (pos most_of_column) ≤ℤ (k *ℤ a)) × ((k *ℤ a) ≤ℤ pos most_of_column)
-product_bounds k a h l = small_bounds k a (IsWeight-small k h) l
+-- what the code has of a weight, as a wider number
+pub weight_read : (k r : ℤ) → IsSmallEntry k → r ≡ to_z w64 (of_z w64 k) → to_z w128 (of_z w128 r) ≡ k
+weight_read k r h e =
+    let of_k : unsigned_abs k ≤ 2147483647 = abs_from_bounds k 2147483647 h.0 h.1 in
+    ap (λ z. to_z w128 (of_z w128 z)) (e ∙ to_z-of_z w64 k (fits_signed_from_abs w64 k (omega arith))) ∙ to_z-of_z w128 k (fits_signed_from_abs w128 k (omega arith))
 
-IsSmallEntry-fits : (k : ℤ) → IsSmallEntry k → unsigned_abs k < 2 ^ 63
-IsSmallEntry-fits k h = omega (arith, abs_from_bounds k 2147483647 h.0 h.1)
-
-pub IsWeight-fits : (k : ℤ) → IsWeight k → unsigned_abs k < 2 ^ 63
-IsWeight-fits k h = IsSmallEntry-fits k (IsWeight-small k h)
-
-pub IsEntry-fits : (a : ℤ) → IsEntry a → unsigned_abs a < 2 ^ 63
-IsEntry-fits a h = omega (arith, abs_from_bounds a 9223372036854775807 h.0 h.1)
-
--- what the code's product of a small entry and an entry gives
-product_is : (k a r s : ℤ) → IsSmallEntry k → IsEntry a → r ≡ to_z w64 (of_z w64 k) → s ≡ to_z w64 (of_z w64 a) → to_z w128 (of_z w128 (to_z w128 (of_z w128 r) *ℤ to_z w128 (of_z w128 s))) ≡ k *ℤ a
-product_is k a r s h l p q =
-    let fits_k : unsigned_abs k < 2 ^ 63 = IsSmallEntry-fits k h in
-    let fits_a : unsigned_abs a < 2 ^ 63 = IsEntry-fits a l in
+product_fits : (k a : ℤ) → IsSmallEntry k → IsEntry a → SFits w128 (k *ℤ a)
+product_fits k a h l =
     let bounds = small_bounds k a h l in
-    let fits_product : unsigned_abs (k *ℤ a) < 2 ^ 127 = omega (arith, abs_from_bounds (k *ℤ a) most_of_column bounds.0 bounds.1) in
-    let is_k : to_z w128 (of_z w128 r) ≡ k =
-    ap (λ z. to_z w128 (of_z w128 z)) (p ∙ to_z-of_z w64 k (fits_signed_from_abs w64 k fits_k)) ∙ to_z-of_z w128 k (fits_signed_from_abs w128 k (omega arith)) in
-    let is_a : to_z w128 (of_z w128 s) ≡ a =
-    ap (λ z. to_z w128 (of_z w128 z)) (q ∙ to_z-of_z w64 a (fits_signed_from_abs w64 a fits_a)) ∙ to_z-of_z w128 a (fits_signed_from_abs w128 a (omega arith)) in
-    ap (λ z. to_z w128 (of_z w128 z)) (ap (λ u. u *ℤ to_z w128 (of_z w128 s)) is_k ∙ ap (λ v. k *ℤ v) is_a)
-    ∙ to_z-of_z w128 (k *ℤ a) (fits_signed_from_abs w128 (k *ℤ a) fits_product)
+    fits_signed_from_abs w128 (k *ℤ a) (omega (arith, abs_from_bounds (k *ℤ a) most_of_column bounds.0 bounds.1))
+
+-- what the code's product of a small entry and an entry gives, and that it fits
+pub product_read : (k a r s : ℤ) → IsSmallEntry k → IsEntry a → r ≡ to_z w64 (of_z w64 k) → as_entry s ≡ a → to_z w128 (of_z w128 (to_z w128 (of_z w128 r) *ℤ as_entry s)) ≡ k *ℤ a
+product_read k a r s h l p q =
+    ap (λ z. to_z w128 (of_z w128 z)) (ap (λ u. u *ℤ as_entry s) (weight_read k r h p) ∙ ap (λ v. k *ℤ v) q)
+    ∙ to_z-of_z w128 (k *ℤ a) (product_fits k a h l)
+
+pub product_read_fits : (k a r s : ℤ) → IsSmallEntry k → IsEntry a → r ≡ to_z w64 (of_z w64 k) → as_entry s ≡ a → SFits w128 (to_z w128 (of_z w128 r) *ℤ as_entry s)
+product_read_fits k a r s h l p q =
+    subst (SFits w128) (sym (ap (λ u. u *ℤ as_entry s) (weight_read k r h p) ∙ ap (λ v. k *ℤ v) q)) (product_fits k a h l)
 
 -- one column more keeps the bounds on a product, and the sum fits
 pub sum_fits : (total p : ℤ) (n : ℕ) → n < 512 → neg_ℤ (pos (n * most_of_column)) ≤ℤ total → total ≤ℤ pos (n * most_of_column) → neg_ℤ (pos most_of_column) ≤ℤ p → p ≤ℤ pos most_of_column → SFits w128 (total +ℤ p)
@@ -90,7 +76,7 @@ pub record IsTurn (w x : List ℤ) (i : ℕ) (total product : ℤ) : Type 0 wher
   pub next : IsTotal w x (i + 1) (to_z w128 (of_z w128 (total +ℤ product)))
 
 -- one turn of the loop over the columns
-pub turn_small : (w x : List ℤ) (i : ℕ) (total r s : ℤ) → length w ≤ 512 → All IsSmallEntry w → All IsEntry x → length x ≡ length w → i < length x → IsTotal w x i total → r ≡ to_z w64 (of_z w64 (get_or w i (pos 0))) → s ≡ to_z w64 (of_z w64 (get_or x i (pos 0))) → IsTurn w x i total (to_z w128 (of_z w128 (to_z w128 (of_z w128 r) *ℤ to_z w128 (of_z w128 s))))
+pub turn_small : (w x : List ℤ) (i : ℕ) (total r s : ℤ) → length w ≤ 512 → All IsSmallEntry w → All IsEntry x → length x ≡ length w → i < length x → IsTotal w x i total → r ≡ to_z w64 (of_z w64 (get_or w i (pos 0))) → as_entry s ≡ get_or x i (pos 0) → IsTurn w x i total (to_z w128 (of_z w128 (to_z w128 (of_z w128 r) *ℤ as_entry s)))
 turn_small w x i total r s few small entries same lt so_far p q =
     let k = get_or w i (pos 0) in
     let a = get_or x i (pos 0) in
@@ -111,10 +97,10 @@ turn_small w x i total r s few small entries same lt so_far p q =
         most = subst (λ (t : ℤ). t ≤ℤ pos ((i + 1) * most_of_column)) (sym same_value) most_now;
       };
     } in
-    subst (IsTurn w x i total) (sym (product_is k a r s small_ok entry_ok p q)) plain
+    subst (IsTurn w x i total) (sym (product_read k a r s small_ok entry_ok p q)) plain
 
 -- the same with the weights of a grading
-pub turn : (w x : List ℤ) (i : ℕ) (total r s : ℤ) → AreWeights w → All IsEntry x → length x ≡ length w → i < length x → IsTotal w x i total → r ≡ to_z w64 (of_z w64 (get_or w i (pos 0))) → s ≡ to_z w64 (of_z w64 (get_or x i (pos 0))) → IsTurn w x i total (to_z w128 (of_z w128 (to_z w128 (of_z w128 r) *ℤ to_z w128 (of_z w128 s))))
+pub turn : (w x : List ℤ) (i : ℕ) (total r s : ℤ) → AreWeights w → All IsEntry x → length x ≡ length w → i < length x → IsTotal w x i total → r ≡ to_z w64 (of_z w64 (get_or w i (pos 0))) → as_entry s ≡ get_or x i (pos 0) → IsTurn w x i total (to_z w128 (of_z w128 (to_z w128 (of_z w128 r) *ℤ as_entry s)))
 turn w x i total r s weights entries same lt so_far p q =
     turn_small w x i total r s weights.columns (weights_small w weights.each) entries same lt so_far p q
 
@@ -125,3 +111,24 @@ no_total w x = record { value = refl; least = omega (arith, ints); most = omega 
 pub whole_total : (w x : List ℤ) (i : ℕ) (total : ℤ) → length w ≤ i → length x ≤ i → IsTotal w x i total → total ≡ weight w x
 whole_total w x i total h l so_far =
     so_far.value ∙ ap (λ y. weight (take i w) y) (take_all i x l) ∙ ap (λ v. weight v x) (take_all i w h)
+
+-- ---- how large a product is
+one_column : (k a t : ℤ) (n : ℕ) → IsSmallEntry k → IsEntry a → unsigned_abs t ≤ n → unsigned_abs ((k *ℤ a) +ℤ t) ≤ most_of_column + n
+one_column k a t n h l m =
+    let first = small_bounds k a h l in
+    let others = abs_bounds t n m in
+    abs_from_bounds ((k *ℤ a) +ℤ t) (most_of_column + n) (omega (arith, ints, first.0, others.0)) (omega (arith, ints, first.1, others.1))
+
+product_within : (w x : List ℤ) → All IsSmallEntry w → All IsEntry x → unsigned_abs (weight w x) ≤ length w * most_of_column
+unfolding weight
+product_within [] x h l = omega arith
+product_within (k ∷ w) [] h l = omega arith
+product_within (k ∷ w) (a ∷ x) h l =
+    let more = one_column k a (weight w x) (length w * most_of_column) (h 0 (pos 0) (omega arith)) (l 0 (pos 0) (omega arith)) (product_within w x (λ i d m. h (suc i) d (omega arith)) (λ i d m. l (suc i) d (omega arith))) in
+    omega (arith, more)
+
+-- the product of at most 512 small numbers and a row stays below 2^121
+pub product_small : (w x : List ℤ) → length w ≤ 512 → All IsSmallEntry w → All IsEntry x → unsigned_abs (weight w x) < 2 ^ 121
+product_small w x few h l =
+    let columns : length w * most_of_column ≤ 512 * most_of_column = omega arith in
+    omega (arith, product_within w x h l)

@@ -1,5 +1,5 @@
 -- A move minus some times another: the difference, and where it leaves the range of entries.
-use Rattle.std.specs.Prelude.{◌≡◌, ℕ, ◌<◌, List, length, All, Option, Some, None, Result, Ok, Err, ℤ, ◌-ℤ◌, ◌*ℤ◌}
+use Rattle.std.specs.Prelude.{◌≡◌, ℕ, ◌<◌, ◌≤◌, ◌*◌, ◌^◌, unsigned_abs, List, length, All, Option, Some, None, Result, Ok, Err, ℤ, ◌-ℤ◌, ◌*ℤ◌}
 use Rattle.mk_model.specs.Vectors.{entry, zeros, scale, subtract, IsEntry}
 use Rattle.mk_model.specs.Overflows.{IsBeyond}
 use Rattle.mk_move.specs.Moves.{Weighed, IsGraded, IsMoveKept}
@@ -46,3 +46,9 @@ pub record GivesEntries (x y : List ℤ) (times : ℤ) (given : List ℤ) : Type
 pub record GivesEntry (z value : ℤ) : Type 0 where
   pub same : value ≡ z
   pub range : IsEntry value
+
+-- Up to this absolute value of a factor its product with the number is formed, and fits 128 bits. A greater factor takes
+-- each entry out of range.
+pub record IsMostFactor (times : ℤ) (most : ℕ) : Type 0 where
+  pub fits : unsigned_abs times * most ≤ 2 ^ 126
+  pub beyond : (left right : ℤ) → IsEntry left → IsEntry right → most < unsigned_abs right → IsBeyond (left -ℤ (times *ℤ right))

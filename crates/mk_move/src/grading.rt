@@ -1,4 +1,4 @@
-ghost use Rattle.std.specs.Prelude.{◌≡◌, ◌≤◌, ◌<◌, length, IfOk, IfErr, All};
+ghost use Rattle.std.specs.Prelude.{◌≡◌, ◌≤◌, ◌<◌, ◌^◌, unsigned_abs, length, IfOk, IfErr, All};
 ghost use Rattle.mk_model.specs.Vectors.{entry, weight, positive_part, IsEntry};
 ghost use Rattle.mk_model.specs.ChosenGradings.{IsSmallEntry};
 ghost use Rattle.mk_move.specs.Gradings.{IsWeight, AreWeights, IsGradingFault};
@@ -93,21 +93,23 @@ impl Grading {
         self.weights[column as usize]
     }
 
-    /// The product with a row of as many columns.
+    /// The product with a row of as many columns: below 2^121 in absolute value.
     pub fn product(&self, row: &[Entry]) -> i128
         requires columns { length row.now ≡ length self.now }
         requires entries { All IsEntry row.now }
         ensures value { result ≡ weight self.now row.now }
+        ensures small { unsigned_abs result < 2 ^ 121 }
         ensures kept { AreWeights self.now }
     {
         product_of(&self.weights, row)
     }
 
-    /// The product with the positive part of a row of as many columns.
+    /// The product with the positive part of a row of as many columns: below 2^121.
     pub fn lead_weight(&self, row: &[Entry]) -> i128
         requires columns { length row.now ≡ length self.now }
         requires entries { All IsEntry row.now }
-        ensures { result ≡ weight self.now (positive_part row.now) }
+        ensures value { result ≡ weight self.now (positive_part row.now) }
+        ensures small { unsigned_abs result < 2 ^ 121 }
     {
         lead_product_of(&self.weights, row)
     }
@@ -123,7 +125,7 @@ pub fn product_of(weights: &[i64], row: &[Entry]) -> i128
 {
     let mut total: i128 = 0;
     for (column, entry) in row.iter().enumerate() {
-        total += i128::from(weights[column]) * i128::from(*entry);
+        total += i128::from(weights[column]) * *entry;
     }
     total
 }
@@ -137,7 +139,7 @@ fn lead_product_of(weights: &[i64], row: &[Entry]) -> i128
 {
     let mut total: i128 = 0;
     for (column, entry) in row.iter().enumerate() {
-        total += i128::from(weights[column]) * i128::from((*entry).max(0));
+        total += i128::from(weights[column]) * (*entry).max(0);
     }
     total
 }

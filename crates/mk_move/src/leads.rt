@@ -26,7 +26,8 @@ pub fn times_dividing(v: &Move, r: &Move, side: Side) -> Entry
     requires columns { length v.now.entries ≡ length r.now.entries }
     requires not_zero { positive_part v.now.entries ≢ zeros (length v.now.entries) }
     requires divides { Divides (positive_part v.now.entries) (part_of side r.now.entries) }
-    ensures { IsMostTimes (positive_part v.now.entries) (part_of side r.now.entries) result }
+    ensures most { IsMostTimes (positive_part v.now.entries) (part_of side r.now.entries) result }
+    ensures range { IsEntry result }
 {
     most_times(v.entries(), r.entries(), side)
 }
@@ -68,7 +69,8 @@ fn most_times(lead: &[Entry], row: &[Entry], side: Side) -> Entry
     requires entries { All IsEntry row.now }
     requires not_zero { positive_part lead.now ≢ zeros (length lead.now) }
     requires divides { Divides (positive_part lead.now) (part_of side row.now) }
-    ensures { IsMostTimes (positive_part lead.now) (part_of side row.now) result }
+    ensures most { IsMostTimes (positive_part lead.now) (part_of side row.now) result }
+    ensures range { IsEntry result }
 {
     let mut times = ENTRY_MAX;
     for (column, entry) in lead.iter().enumerate() {

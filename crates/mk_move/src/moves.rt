@@ -33,7 +33,7 @@ impl From<AllocError> for MoveFault {
 }
 
 /// How many entries lie in the move itself.
-const INLINE: usize = 16;
+const INLINE: usize = 8;
 
 pub(crate) type Entries = SmallVec<Entry, INLINE>;
 
@@ -159,7 +159,7 @@ impl Move {
         requires { column < length self.now.entries }
         ensures { result ≡ entry self.now.entries column }
     {
-        i128::from(self.entries.as_slice()[column as usize])
+        self.entries.as_slice()[column as usize]
     }
 
     /// The weight of its lead, and of its tail.

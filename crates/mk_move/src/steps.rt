@@ -1,7 +1,7 @@
 ghost use Rattle.std.specs.Prelude.{◌≡◌, ◌≤◌, ◌↔◌, IsTrue, pos, length, All, OnOk, IfErr, MatchResult, MatchOption, ◌-ℤ◌, ◌*ℤ◌};
 ghost use Rattle.mk_model.specs.Vectors.{IsEntry, weight, zeros};
 ghost use Rattle.mk_model.specs.Overflows.{IsBeyond};
-ghost use Rattle.mk_move.specs.Steps.{TakesOff, IsOverflow, IsStepFault, GivesEntries, GivesEntry};
+ghost use Rattle.mk_move.specs.Steps.{TakesOff, IsOverflow, IsStepFault, GivesEntries, GivesEntry, IsMostFactor};
 
 use crate::grading::Grading;
 use crate::moves::{Entries, Move};
@@ -9,7 +9,7 @@ use mk_model::{ENTRY_MAX, Entry};
 use smallvec::SmallVec;
 use std::alloc::{AllocError, Global};
 
-/// A column where `left - times * right` leaves the range of entries, from -9223372036854775807 to 9223372036854775807.
+/// A column where `left - times * right` leaves the range of entries, from `-ENTRY_MAX` to `ENTRY_MAX`.
 #[derive(Clone, Copy, Debug, PartialEq, Eq)]
 pub struct OverflowAt {
     pub column: u32,
@@ -91,14 +91,15 @@ fn take_off(row: &mut [Entry], times: Entry, right: &[Entry]) -> Result<(), Over
     ensures taken { OnOk result (GivesEntries row.old right.now times row.new) }
     ensures refused { IfErr result (IsOverflow row.old right.now times) }
 {
+    let most = most_factor(times);
     for column in 0..row.len() {
         let left = row[column];
-        let Some(value) = entry_less(left, times, right[column]) else {
+        let Some(value) = entry_less(left, times, right[column], most) else {
             return Err(OverflowAt {
                 column: column as u32,
-                left: i128::from(left),
-                times: i128::from(times),
-                right: i128::from(right[column]),
+                left,
+                times,
+                right: right[column],
             });
         };
         row[column] = value;
@@ -106,19 +107,39 @@ fn take_off(row: &mut [Entry], times: Entry, right: &[Entry]) -> Result<(), Over
     Ok(())
 }
 
-/// The entry `left - times * right`, and none where it leaves the range.
-fn entry_less(left: Entry, times: Entry, right: Entry) -> Option<Entry>
+/// Below this absolute value the product of a number and each entry fits 128 bits.
+const NARROW: u128 = (1 << 126) / (ENTRY_MAX as u128 + 1);
+
+/// The greatest absolute value of an entry whose product with the number is formed: any, where the number is small, and
+/// else the quotient of twice the largest entry by the number.
+fn most_factor(times: Entry) -> u128
+    requires { IsEntry times }
+    ensures { IsMostFactor times result }
+{
+    let size = times.unsigned_abs();
+    if size < NARROW {
+        return ENTRY_MAX as u128;
+    }
+    2 * ENTRY_MAX as u128 / size
+}
+
+/// The entry `left - times * right`, and none where it leaves the range. The product is formed where `right` is at most
+/// `most` in absolute value.
+fn entry_less(left: Entry, times: Entry, right: Entry, most: u128) -> Option<Entry>
     requires left { IsEntry left }
     requires times { IsEntry times }
     requires right { IsEntry right }
+    requires most { IsMostFactor times most }
     ensures { MatchOption result (IsBeyond (left -ℤ (times *ℤ right))) (GivesEntry (left -ℤ (times *ℤ right))) }
 {
-    let value = i128::from(left) - i128::from(times) * i128::from(right);
-    let most = i128::from(ENTRY_MAX);
-    if value < -most || value > most {
+    if right.unsigned_abs() > most {
         return None;
     }
-    Some(value as Entry)
+    let value = left - times * right;
+    if value < -ENTRY_MAX || value > ENTRY_MAX {
+        return None;
+    }
+    Some(value)
 }
 
 /// Has the row no entry but 0?

@@ -158,16 +158,37 @@ fn multiples_are_taken_off(rt: HostRuntime) -> Result<(), Fail> {
 fn differences_stay_in_range(rt: HostRuntime) -> Result<(), Fail> {
     let largest = less(&rt, ENTRY_MAX - 1, -1)??;
     assert!(rt; largest.is_some());
-    assert_opposite(&rt, &largest.unwrap(), 9223372036854775807);
+    assert_opposite(&rt, &largest.unwrap(), 1208925819614629174706175);
     let beyond = less(&rt, ENTRY_MAX, -1)?;
     assert!(rt;
         matches!(
             beyond,
             Err(StepFault::Overflow(OverflowAt {
                 column: 0,
-                left: 9223372036854775807,
+                left: 1208925819614629174706175,
                 times: -1,
                 right: 1
+            }))
+        )
+    );
+    Ok(())
+}
+
+#[test]
+fn a_product_far_out_of_range_is_not_formed(rt: HostRuntime) -> Result<(), Fail> {
+    let grading = ones(&rt)?;
+    let list = last_first(&rt)?;
+    let one = opposite(&rt, 1, &grading, &list)?;
+    let largest = opposite(&rt, ENTRY_MAX, &grading, &list)?;
+    let refused = subtract_times(rt.alloc(), &one, ENTRY_MAX, &largest, &grading);
+    assert!(rt;
+        matches!(
+            refused,
+            Err(StepFault::Overflow(OverflowAt {
+                column: 0,
+                left: 1,
+                times: 1208925819614629174706175,
+                right: 1208925819614629174706175
             }))
         )
     );

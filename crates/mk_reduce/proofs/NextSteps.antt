@@ -1,8 +1,5 @@
 -- The step by a move whose lead divides a part of a vector, and why there is none.
-use Rattle.std.proofs.Common.{◌≡◌, ◌≢◌, ◌⊎◌, inl, inr, ℕ, zero, suc, ◌≤◌, negsuc, unsigned_abs, ◌<◌, List, length, Some, slice_get, get_or, All, ℤ, pos, neg_ℤ, ◌-ℤ◌, arith, ap, sym, ◌∙◌, subst, false, ⊎_elim}
-use mir.Syntax.{w64}
-use mir.Val.{to_z, of_z}
-use lib.Signed.{mag}
+use Rattle.std.proofs.Common.{◌≡◌, ◌≢◌, ◌⊎◌, inl, inr, ℕ, zero, suc, ◌≤◌, negsuc, unsigned_abs, List, length, Some, slice_get, get_or, All, ℤ, pos, neg_ℤ, ◌-ℤ◌, arith, ap, sym, ◌∙◌, subst, false, ⊎_elim}
 use Rattle.std.proofs.lemmas.Int.{ints, clamps}
 use Rattle.std.proofs.lemmas.Option.{slice_get_within}
 use Rattle.std.proofs.lemmas.Bool.{cases_Bool}
@@ -19,7 +16,7 @@ use Rattle.mk_model.specs.Overflows.{IsTimesDividing}
 use Rattle.mk_move.specs.Moves.{Weighed, IsMoveKept}
 use Rattle.mk_move.specs.MoveLists.{BasisView, IsBasis, BelongsTo, vectors_of}
 use Rattle.mk_move.specs.Sides.{part_of, entry_on, IsMostTimes, DividesAt}
-use Rattle.mk_move.proofs.Readings.{entry_read}
+use Rattle.mk_move.proofs.Entries.{as_entry, entry_read}
 use Rattle.mk_move.proofs.Divisions.{not_on_both}
 use Rattle.mk_move.specs.declared.side.Side.{Side}
 use Rattle.mk_move.specs.declared.side.Side.TheVariants.{Plus, Minus}
@@ -79,31 +76,22 @@ step_on moves r place m side times h d = record {
   greatest = λ other g. no_greater m.entries r side times other d (subst (λ v. IsTimesDividing v r other) (vector_at moves place m h) g);
 }
 
--- the number of times, as the code has it
-pub times_are_entry : (times : ℤ) (x y : List ℤ) → mag times < 9223372036854775808 → IsMostTimes x y times → IsEntry times
-times_are_entry times x y h d =
-    let l : d.count < 9223372036854775808 = subst (λ (z : ℤ). mag z < 9223372036854775808) d.value h in
-    let range : IsEntry (pos d.count) = (omega (arith, ints), omega (arith, ints)) in
-    subst IsEntry (sym d.value) range
-
-pub minus_read : (times : ℤ) → IsEntry times → to_z w64 (of_z w64 (pos 0 -ℤ to_z w64 (of_z w64 times))) ≡ neg_ℤ times
+pub minus_read : (times : ℤ) → IsEntry times → as_entry (pos 0 -ℤ as_entry times) ≡ neg_ℤ times
 minus_read times h =
     let range : IsEntry (neg_ℤ times) = (omega (arith, ints, h.0, h.1), omega (arith, ints, h.0, h.1)) in
     let same : pos 0 -ℤ times ≡ neg_ℤ times = omega (arith, ints) in
-    ap (λ z. to_z w64 (of_z w64 (pos 0 -ℤ z))) (entry_read times h) ∙ ap (λ z. to_z w64 (of_z w64 z)) same ∙ entry_read (neg_ℤ times) range
+    ap (λ z. as_entry (pos 0 -ℤ z)) (entry_read times h) ∙ ap (λ z. as_entry z) same ∙ entry_read (neg_ℤ times) range
 
 -- the steps that the code makes
-pub plus_step : (moves : List Weighed) (r : List ℤ) (place : ℕ) (m : Weighed) (side : Side) (times : ℤ) → side ≡ Plus → mag times < 9223372036854775808 → slice_get moves place ≡ Some m → IsMostTimes (lead m.entries) (part_of side r) times →
-    IsReductionStep (vectors_of moves) r (record { times = to_z w64 (of_z w64 times); place = place })
-plus_step moves r place m side times e l h d =
-    let read = entry_read times (times_are_entry times (lead m.entries) (part_of side r) l d) in
-    subst (λ (z : ℤ). IsReductionStep (vectors_of moves) r (record { times = z; place = place })) (ap (λ s. signed s times) e ∙ sym read) (step_on moves r place m side times h d)
+pub plus_step : (moves : List Weighed) (r : List ℤ) (place : ℕ) (m : Weighed) (side : Side) (times : ℤ) → side ≡ Plus → IsEntry times → slice_get moves place ≡ Some m → IsMostTimes (lead m.entries) (part_of side r) times →
+    IsReductionStep (vectors_of moves) r (record { times = as_entry times; place = place })
+plus_step moves r place m side times e range h d =
+    subst (λ (z : ℤ). IsReductionStep (vectors_of moves) r (record { times = z; place = place })) (ap (λ s. signed s times) e ∙ sym (entry_read times range)) (step_on moves r place m side times h d)
 
-pub minus_step : (moves : List Weighed) (r : List ℤ) (place : ℕ) (m : Weighed) (side : Side) (times : ℤ) → side ≡ Minus → mag times < 9223372036854775808 → slice_get moves place ≡ Some m → IsMostTimes (lead m.entries) (part_of side r) times →
-    IsReductionStep (vectors_of moves) r (record { times = to_z w64 (of_z w64 (pos 0 -ℤ to_z w64 (of_z w64 times))); place = place })
-minus_step moves r place m side times e l h d =
-    let read = minus_read times (times_are_entry times (lead m.entries) (part_of side r) l d) in
-    subst (λ (z : ℤ). IsReductionStep (vectors_of moves) r (record { times = z; place = place })) (ap (λ s. signed s times) e ∙ sym read) (step_on moves r place m side times h d)
+pub minus_step : (moves : List Weighed) (r : List ℤ) (place : ℕ) (m : Weighed) (side : Side) (times : ℤ) → side ≡ Minus → IsEntry times → slice_get moves place ≡ Some m → IsMostTimes (lead m.entries) (part_of side r) times →
+    IsReductionStep (vectors_of moves) r (record { times = as_entry (pos 0 -ℤ as_entry times); place = place })
+minus_step moves r place m side times e range h d =
+    subst (λ (z : ℤ). IsReductionStep (vectors_of moves) r (record { times = z; place = place })) (ap (λ s. signed s times) e ∙ sym (minus_read times range)) (step_on moves r place m side times h d)
 
 -- ---- where there is none
 pub lead_columns : (basis : BasisView) (r : List ℤ) → IsBasis basis → length r ≡ length basis.grading → All (λ (x : List ℤ). length x ≡ length r) (leads_of basis.moves)

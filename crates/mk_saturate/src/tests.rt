@@ -1,11 +1,12 @@
 use crate::Saturation;
 use mk_files::Table;
+use mk_model::Entry;
 use mk_move::Grading;
 use std::test::Fail;
 
 #[test]
 fn begins_with_every_column_left(rt: HostRuntime) -> Result<(), Fail> {
-    let entries = vec![in rt.alloc(); 0i64, 0, -1, 1]?;
+    let entries = vec![in rt.alloc(); 0 as Entry, 0, -1, 1]?;
     let lat = Table::from_entries(2, 2, entries);
     let grading = Grading::new(rt.alloc(), &[1, 1])?;
     let saturation = Saturation::start(rt.alloc(), &lat, &grading)?;

@@ -6,13 +6,14 @@ ghost use Rattle.mk_model.specs.Texts.{header_line, move_line};
 ghost use Rattle.mk_writer.specs.Lines.{space_before};
 
 use itoa::{Buffer, Integer};
+use mk_model::Entry;
 use mk_move::Move;
 
 /// How many bytes a header line has at most: two numbers of ten digits, a space and byte 10.
 pub(crate) const HEADER_ROOM: usize = 22;
 
-/// How many bytes an entry has at most, with the space before it.
-pub(crate) const ENTRY_ROOM: usize = 21;
+/// The room for an entry: as many bytes as any number of 128 bits has, with a space before it.
+pub(crate) const ENTRY_ROOM: usize = 41;
 
 /// Makes the buffer the header line.
 pub(crate) fn set_header(line: &mut Vec<u8>, count: u32, columns: u32)
@@ -35,13 +36,13 @@ pub(crate) fn set_move(line: &mut Vec<u8>, next: &Move)
 {
     line.clear();
     for column in 0..next.columns() {
-        push_entry(line, column, next.entry(column) as i64);
+        push_entry(line, column, next.entry(column));
     }
     push_bytes(line, b"\n");
 }
 
 /// Appends the entry of a column, with a space before it unless it is the first.
-fn push_entry(line: &mut Vec<u8>, column: u32, entry: i64)
+fn push_entry(line: &mut Vec<u8>, column: u32, entry: Entry)
     requires room { vec_len line.old + ENTRY_ROOM ≤ vec_capacity line.old }
     ensures text { line.new.items ≡ line.old.items ++ (space_before column ++ signed_decimal entry) }
     ensures len { vec_len line.new ≤ vec_len line.old + ENTRY_ROOM }

@@ -10,6 +10,6 @@ loop-digit-preserved c =
     let digits = c.args.digits.now in
     let digit : is_ascii_digit (get_or digits i 0) ≡ true = sym c.is_ascii_digit.ensures.value ∙ c.if-not-is_ascii_digit.false in
     record {
-      value = digits_value-held digits i _ _ _ _ _ (omega arith) digit c.loop-digit.invariant.value c.saturating_mul.ensures c.from.ensures c.saturating_add-value.ensures;
+      value = digits_value-held digits i _ _ _ _ (omega arith) digit c.loop-digit.invariant.value c.from.ensures c.min-value.ensures;
       each = All-more (λ b. is_ascii_digit b ≡ true) digits i 0 (omega arith) c.loop-digit.invariant.each digit;
     }

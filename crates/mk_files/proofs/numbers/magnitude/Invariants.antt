@@ -1,11 +1,12 @@
-use Rattle.std.proofs.Common.{◌≡◌, ◌-◌, ◌^◌, min, take}
+use Rattle.std.proofs.Common.{◌≡◌, min, take}
 use Rattle.std.specs.Str.Parse.{digits_value}
 use Rattle.std.specs.List.{AllPass}
 use Rattle.std.specs.Char.{is_ascii_digit}
+use Rattle.mk_files.specs.declared.numbers.TheConstants.{BEYOND}
 use Rattle.mk_files.proofs.numbers.magnitude.Given as goal
 
 abbrev pub invariant-loop-digit : goal.invariant-loop-digit
 invariant-loop-digit l = record {
-  value : l.value ≡ min (digits_value 10 (take l.digit-index l.digits)) (2 ^ 64 - 1);
+  value : l.value ≡ min (digits_value 10 (take l.digit-index l.digits)) BEYOND;
   each : AllPass is_ascii_digit (take l.digit-index l.digits);
 }

@@ -1,4 +1,5 @@
-use Rattle.std.proofs.Common.{◌≡◌, ◌*◌, inr, w64, FitsSigned, rules, arith}
+use Rattle.std.proofs.Common.{◌≡◌, ◌*◌, inr, FitsSigned, rules, arith}
+use mir.Syntax.{w128}
 use Rattle.std.proofs.lemmas.Int.{to_z-of_z}
 use Rattle.std.proofs.lemmas.Result.{err_from_is_err_and}
 use Rattle.mk_files.proofs.FaultsFound.{entry_read, missing, bad_entry, one_more}
@@ -18,7 +19,7 @@ returns-in_err-read_entry-clause-fault c =
 
 pub loop-found-preserved : goal.loop-found-preserved
 loop-found-preserved c =
-    let fits : FitsSigned w64 c.in_ok-read_entry.field-0 = search rules in
+    let fits : FitsSigned w128 c.in_ok-read_entry.field-0 = search rules in
     let pushed = simp to_z-of_z at c.in_ok-push.ensures.items in
     record {
       count = grind arith;

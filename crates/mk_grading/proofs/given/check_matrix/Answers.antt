@@ -1,18 +1,26 @@
-use Rattle.std.proofs.Common.{All, sym, ◌∙◌, arith, rules}
+use Rattle.std.proofs.Common.{All, subst, sym, ◌∙◌, arith, rules}
 use Rattle.mk_model.specs.Tables.{rows_of}
 use Rattle.mk_model.specs.ChosenGradings.{IsSmallEntry, IsOrthogonal, FitsMatrix}
 use Rattle.mk_grading.proofs.RowsRead.{length-rows_of, rows_entries, got_holds, all_more, all_taken}
 use Rattle.mk_grading.proofs.given.check_matrix.Goals as goal
 
-pub first_product-requires-clause-small : goal.first_product-requires-clause-small
-first_product-requires-clause-small c =
+pub narrowed-requires : goal.narrowed-requires
+narrowed-requires c =
     let matrix = c.in-Some.matrix.now in
     let small : All IsSmallEntry matrix.entries = search rules in
     got_holds (All IsSmallEntry) (rows_of matrix) c.loop-mat_row.mat_row c.row.result.now c.row.ensures.value (rows_entries IsSmallEntry matrix small)
 
+pub first_product-requires-clause-small : goal.first_product-requires-clause-small
+first_product-requires-clause-small c =
+    let matrix = c.in-Some.matrix.now in
+    let small : All IsSmallEntry matrix.entries = search rules in
+    subst (All IsSmallEntry) (sym (c.deref.ensures.value ∙ c.in_ok-numbers.ensures))
+    (got_holds (All IsSmallEntry) (rows_of matrix) c.loop-mat_row.mat_row c.row.result.now c.row.ensures.value (rows_entries IsSmallEntry matrix small))
+
 pub loop-mat_row-preserved : goal.loop-mat_row-preserved
 loop-mat_row-preserved c =
-    all_more (IsOrthogonal c.args.lat.now) (rows_of c.in-Some.matrix.now) c.loop-mat_row.mat_row c.row.result.now c.row.ensures.value c.loop-mat_row.invariant c.in_default-first_product.ensures.none
+    all_more (IsOrthogonal c.args.lat.now) (rows_of c.in-Some.matrix.now) c.loop-mat_row.mat_row c.row.result.now c.row.ensures.value c.loop-mat_row.invariant
+    (subst (IsOrthogonal c.args.lat.now) (c.deref.ensures.value ∙ c.in_ok-numbers.ensures) c.in_default-first_product.ensures.none)
 
 pub returns-clause-fits : goal.returns-clause-fits
 returns-clause-fits c =

@@ -2,7 +2,7 @@ use Rattle.std.proofs.Common.{List, Ok, Err, ap, ◌∙◌, subst, ℤ}
 use Rattle.mk_model.specs.Orders.{lead, tail}
 use Rattle.mk_model.specs.Reductions.{Divides}
 use Rattle.mk_move.proofs.Belongings.{BelongsTo-lead}
-use Rattle.mk_move.proofs.Readings.{entry_read}
+use Rattle.mk_move.proofs.Entries.{entry_read}
 use Rattle.mk_inter.proofs.TailSteps.{vector_at, stepped, stepped_below, never_zero, step_fault, taken_off}
 use Rattle.mk_inter.proofs.tail.tail_step.Goals as goal
 

@@ -1,7 +1,5 @@
 use Rattle.std.proofs.Common.{◌≡◌, ℤ, Err, ap, sym, ◌∙◌, subst}
-use mir.Syntax.{w64}
-use mir.Val.{to_z, of_z}
-use Rattle.mk_move.proofs.Readings.{entry_read}
+use Rattle.mk_move.proofs.Entries.{as_entry, entry_read}
 use Rattle.mk_move.specs.Steps.{TakesOff}
 use Rattle.mk_minimise.specs.LinkSteps.{times_at}
 use Rattle.mk_minimise.proofs.LinkEnds.{times_is_entry, never_beyond, less_link_is}
@@ -10,7 +8,7 @@ use Rattle.mk_minimise.proofs.links.less_link.Goals.{After-subtract_times}
 
 taken : (c : After-subtract_times) → TakesOff c.args.m.now.entries (times_at c.args.side) c.args.link.now.entries c.args.grading.now c.subtract_times.result
 taken c =
-    let read : to_z w64 (of_z w64 c.times_of.result) ≡ times_at c.args.side = ap (λ z. to_z w64 (of_z w64 z)) c.times_of.ensures ∙ entry_read (times_at c.args.side) (times_is_entry c.args.side) in
+    let read : as_entry c.times_of.result ≡ times_at c.args.side = ap (λ z. as_entry z) c.times_of.ensures ∙ entry_read (times_at c.args.side) (times_is_entry c.args.side) in
     subst (λ (z : ℤ). TakesOff c.args.m.now.entries z c.args.link.now.entries c.args.grading.now c.subtract_times.result) read c.subtract_times.ensures
 
 pub unreachable-requires : goal.unreachable-requires

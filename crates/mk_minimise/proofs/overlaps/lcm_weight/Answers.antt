@@ -4,8 +4,9 @@ use mir.Val.{to_z, of_z}
 use Rattle.mk_model.specs.Vectors.{entry}
 use Rattle.mk_model.specs.Orders.{lead}
 use Rattle.mk_model.specs.Reductions.{lcm}
-use Rattle.mk_move.proofs.Weights.{IsTurn, turn, no_total, whole_total}
-use Rattle.mk_minimise.proofs.LcmWeights.{lcm_entries, length-lcm_leads, larger_read, product_fits}
+use Rattle.mk_move.proofs.Entries.{as_entry}
+use Rattle.mk_move.proofs.Weights.{IsTurn, IsWeight-small, product_read_fits, turn, no_total, whole_total}
+use Rattle.mk_minimise.proofs.LcmWeights.{lcm_entries, length-lcm_leads, larger_read}
 use Rattle.mk_minimise.proofs.overlaps.lcm_weight.Goals as goal
 use Rattle.mk_minimise.proofs.overlaps.lcm_weight.Goals.{After-from, After-columns-column-end}
 
@@ -15,7 +16,7 @@ whole c = length-lcm_leads c.args.a.now.entries c.args.b.now.entries (length c.a
 weight_read : (c : After-from) → c.from.result ≡ to_z w64 (of_z w64 (entry c.args.grading.now c.loop-column.column))
 weight_read c = c.from.ensures ∙ ap (λ z. to_z w64 (of_z w64 z)) c.weight_at.ensures.value
 
-entry_is : (c : After-from) → c.max-larger.result ≡ to_z w64 (of_z w64 (entry (lcm (lead c.args.a.now.entries) (lead c.args.b.now.entries)) c.loop-column.column))
+entry_is : (c : After-from) → as_entry c.max-larger.result ≡ entry (lcm (lead c.args.a.now.entries) (lead c.args.b.now.entries)) c.loop-column.column
 entry_is c =
     let column = c.loop-column.column in
     larger_read c.args.a.now.entries c.args.b.now.entries column c.entry.result c.entry-in-loop-column.result c.max.result c.max-larger.result
@@ -24,7 +25,7 @@ entry_is c =
     c.entry.ensures c.entry-in-loop-column.ensures c.max.ensures.value c.max-larger.ensures.value
 
 this_turn : (c : After-from) → IsTurn c.args.grading.now (lcm (lead c.args.a.now.entries) (lead c.args.b.now.entries)) c.loop-column.column (to_z w128 c.loop-column.total-bits)
-    (to_z w128 (of_z w128 (to_z w128 (of_z w128 c.from.result) *ℤ to_z w128 (of_z w128 c.max-larger.result))))
+    (to_z w128 (of_z w128 (to_z w128 (of_z w128 c.from.result) *ℤ as_entry c.max-larger.result)))
 this_turn c =
     let same = whole (goal.at.overflow_mul-total c).After-columns-column-end in
     turn c.args.grading.now (lcm (lead c.args.a.now.entries) (lead c.args.b.now.entries)) c.loop-column.column (to_z w128 c.loop-column.total-bits) c.from.result c.max-larger.result
@@ -39,8 +40,8 @@ overflow_mul-total c =
     let column = c.loop-column.column in
     let same = whole (goal.at.overflow_mul-total c).After-columns-column-end in
     let entries = lcm_entries c.args.a.now.entries c.args.b.now.entries (c.requires.columns ∙ sym c.requires.as_many) c.columns.ensures.kept.entries c.columns-3.ensures.kept.entries in
-    product_fits (entry c.args.grading.now column) (entry (lcm (lead c.args.a.now.entries) (lead c.args.b.now.entries)) column) c.from.result c.max-larger.result
-    (c.columns-2.ensures.kept.each column _ (omega (arith, c.loop-column-test.true, c.columns-column-end.ensures.value)))
+    product_read_fits (entry c.args.grading.now column) (entry (lcm (lead c.args.a.now.entries) (lead c.args.b.now.entries)) column) c.from.result c.max-larger.result
+    (IsWeight-small _ (c.columns-2.ensures.kept.each column _ (omega (arith, c.loop-column-test.true, c.columns-column-end.ensures.value))))
     (entries column _ (omega (arith, same, c.loop-column-test.true, c.columns-column-end.ensures.value))) (weight_read c) (entry_is c)
 
 pub overflow_add-total : goal.overflow_add-total

@@ -1,16 +1,15 @@
 use Rattle.std.proofs.Common.{◌≡◌, pos, get_or, arith, rules, inl, inr, refl}
-use mir.Syntax.{w64}
-use mir.Val.{to_z, of_z}
-use Rattle.mk_move.proofs.Readings.{less, not_less, entry_read}
+use Rattle.mk_move.proofs.Entries.{as_entry, entry_read}
+use Rattle.mk_move.proofs.Readings.{less, not_less}
 use Rattle.mk_move.proofs.Divisions.{disjoint_more, disjoint_whole, disjoint_not}
 use Rattle.mk_move.proofs.leads.are_disjoint.Goals as goal
 use Rattle.mk_move.proofs.leads.are_disjoint.Goals.{In-loop-column, else-entry-gt0-via-then-entry-gt0+else-b-column-gt0, else-entry-gt0-via-else-entry-gt0}
 
 -- the entries, as the code has them
-left_is : (c : In-loop-column) → to_z w64 (of_z w64 (get_or c.args.a.now c.loop-column.column (pos 0))) ≡ get_or c.args.a.now c.loop-column.column (pos 0)
+left_is : (c : In-loop-column) → as_entry (get_or c.args.a.now c.loop-column.column (pos 0)) ≡ get_or c.args.a.now c.loop-column.column (pos 0)
 left_is c = entry_read (get_or c.args.a.now c.loop-column.column (pos 0)) (c.requires.left c.loop-column.column (pos 0) (omega arith))
 
-right_is : (c : In-loop-column) → to_z w64 (of_z w64 (get_or c.args.b.now c.loop-column.column (pos 0))) ≡ get_or c.args.b.now c.loop-column.column (pos 0)
+right_is : (c : In-loop-column) → as_entry (get_or c.args.b.now c.loop-column.column (pos 0)) ≡ get_or c.args.b.now c.loop-column.column (pos 0)
 right_is c = entry_read (get_or c.args.b.now c.loop-column.column (pos 0)) (c.requires.right c.loop-column.column (pos 0) (omega arith))
 
 pub returns-then-b-column-gt0 : goal.returns-then-b-column-gt0

@@ -1,17 +1,16 @@
 use Rattle.std.proofs.Common.{◌≡◌, pos, get_or, arith, rules}
-use mir.Syntax.{w64}
-use mir.Val.{to_z, of_z}
 use Rattle.mk_move.specs.Sides.{entry_on}
-use Rattle.mk_move.proofs.Readings.{less, not_less, entry_read, part_read}
+use Rattle.mk_move.proofs.Entries.{as_entry, entry_read}
+use Rattle.mk_move.proofs.Readings.{less, not_less, part_read}
 use Rattle.mk_move.proofs.Divisions.{divides_more, divides_whole, divides_not}
 use Rattle.mk_move.proofs.leads.divides_part.Goals as goal
 use Rattle.mk_move.proofs.leads.divides_part.Goals.{After-entry_of}
 
 -- the entry of the lead and that of the part, as the code has them
-lead_is : (c : After-entry_of) → to_z w64 (of_z w64 (get_or c.args.lead.now c.loop-column.column (pos 0))) ≡ get_or c.args.lead.now c.loop-column.column (pos 0)
+lead_is : (c : After-entry_of) → as_entry (get_or c.args.lead.now c.loop-column.column (pos 0)) ≡ get_or c.args.lead.now c.loop-column.column (pos 0)
 lead_is c = entry_read (get_or c.args.lead.now c.loop-column.column (pos 0)) (c.requires.lead c.loop-column.column (pos 0) (omega arith))
 
-part_is : (c : After-entry_of) → to_z w64 (of_z w64 c.entry_of.result) ≡ entry_on c.args.side (get_or c.args.row.now c.loop-column.column (pos 0))
+part_is : (c : After-entry_of) → as_entry c.entry_of.result ≡ entry_on c.args.side (get_or c.args.row.now c.loop-column.column (pos 0))
 part_is c =
     part_read c.args.side (get_or c.args.row.now c.loop-column.column (pos 0)) c.entry_of.result (c.requires.entries c.loop-column.column (pos 0) (omega arith)) c.entry_of.ensures
 

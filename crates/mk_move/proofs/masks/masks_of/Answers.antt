@@ -1,7 +1,6 @@
 use Rattle.std.proofs.Common.{◌≡◌, ◌/◌, pos, get_or, refl, arith, ap, ◌∙◌}
-use mir.Syntax.{w64}
-use mir.Val.{to_z, of_z}
-use Rattle.mk_move.proofs.Readings.{less, not_less, entry_read}
+use Rattle.mk_move.proofs.Entries.{as_entry, entry_read}
+use Rattle.mk_move.proofs.Readings.{less, not_less}
 use Rattle.mk_move.proofs.Blocks.{with_block, masks_first, masks_positive, masks_negative, masks_neither, masks_as_they_are, masks_whole}
 use Rattle.mk_move.proofs.masks.masks_of.Goals as goal
 use Rattle.mk_move.proofs.masks.masks_of.Goals.{then-entry-gt0, else-entry-gt0+then-entry-lt0, else-entry-gt0+else-entry-lt0}
@@ -16,7 +15,7 @@ loop-column-preserved c =
     let plus = c.loop-column.plus in
     let minus = c.loop-column.minus in
     let few = c.requires.few in
-    let entry_is : to_z w64 (of_z w64 (get_or row n (pos 0))) ≡ get_or row n (pos 0) = entry_read (get_or row n (pos 0)) (c.requires.entries n (pos 0) (omega arith)) in
+    let entry_is : as_entry (get_or row n (pos 0)) ≡ get_or row n (pos 0) = entry_read (get_or row n (pos 0)) (c.requires.entries n (pos 0) (omega arith)) in
     let width = c.block_width-width.ensures in
     elim c.if-entry-gt0.branch [
       | then-entry-gt0 w ↦

@@ -1,11 +1,10 @@
 use Rattle.std.proofs.Common.{◌≡◌, ◌<◌, length, pos, get_or, arith, subst, All, ◌∙◌, sym}
-use mir.Syntax.{w64}
-use mir.Val.{to_z, of_z}
 use Rattle.std.proofs.lemmas.Int.{ints}
 use Rattle.std.proofs.lemmas.List.{take_all}
 use Rattle.std.proofs.lemmas.List.Elements.{All-more}
 use Rattle.mk_model.specs.Vectors.{entry, positive_part}
 use Rattle.mk_model.proofs.VectorAlgebra.{entry-positive_part}
+use Rattle.mk_move.proofs.Entries.{as_entry}
 use Rattle.mk_move.proofs.Readings.{less, not_less, lead_read}
 use Rattle.mk_move.proofs.Comparisons.{below_at}
 use Rattle.mk_move.proofs.orders.compare_along.Goals as goal
@@ -15,12 +14,12 @@ use Rattle.mk_move.proofs.orders.compare_along.Goals.{After-max-right}
 within : (c : After-max-right) → get_or c.args.columns.now c.loop-column.column-index 0 < length c.args.a.now
 within c = c.requires.columns c.loop-column.column-index 0 (omega arith)
 
-left_is : (c : After-max-right) → to_z w64 (of_z w64 c.max-left.result) ≡ entry (positive_part c.args.a.now) (get_or c.args.columns.now c.loop-column.column-index 0)
+left_is : (c : After-max-right) → as_entry c.max-left.result ≡ entry (positive_part c.args.a.now) (get_or c.args.columns.now c.loop-column.column-index 0)
 left_is c =
     let at = get_or c.args.columns.now c.loop-column.column-index 0 in
     lead_read (entry c.args.a.now at) c.max-left.result (c.requires.left at (pos 0) (within c)) c.max-left.ensures.value ∙ sym (entry-positive_part c.args.a.now at)
 
-right_is : (c : After-max-right) → to_z w64 (of_z w64 c.max-right.result) ≡ entry (positive_part c.args.b.now) (get_or c.args.columns.now c.loop-column.column-index 0)
+right_is : (c : After-max-right) → as_entry c.max-right.result ≡ entry (positive_part c.args.b.now) (get_or c.args.columns.now c.loop-column.column-index 0)
 right_is c =
     let at = get_or c.args.columns.now c.loop-column.column-index 0 in
     lead_read (entry c.args.b.now at) c.max-right.result (c.requires.right at (pos 0) (omega (arith, within c))) c.max-right.ensures.value ∙ sym (entry-positive_part c.args.b.now at)

@@ -1,10 +1,9 @@
 use Rattle.std.proofs.Common.{◌≡◌, ◌-◌, length, pos, arith, ◌∙◌, sym}
-use mir.Syntax.{w64}
-use mir.Val.{to_z, of_z}
 use Rattle.std.proofs.lemmas.Int.{ints}
 use Rattle.std.proofs.lemmas.List.{ext_get_or}
 use Rattle.mk_model.specs.Vectors.{entry}
 use Rattle.mk_move.specs.Sides.{part_of}
+use Rattle.mk_move.proofs.Entries.{as_entry}
 use Rattle.mk_move.proofs.Readings.{less, not_less, part_read}
 use Rattle.mk_move.proofs.Divisions.{entry-part_of, length-part_of, part_of_past}
 use Rattle.mk_move.proofs.Comparisons.{below_standard, same_from}
@@ -12,12 +11,12 @@ use Rattle.mk_move.proofs.orders.compare_standard.Goals as goal
 use Rattle.mk_move.proofs.orders.compare_standard.Goals.{After-entry_of-right}
 
 -- the entries of the parts at the column, as the code has them
-left_is : (c : After-entry_of-right) → to_z w64 (of_z w64 c.entry_of-left.result) ≡ entry (part_of c.args.side c.args.a.now) (c.loop-end.end - 1)
+left_is : (c : After-entry_of-right) → as_entry c.entry_of-left.result ≡ entry (part_of c.args.side c.args.a.now) (c.loop-end.end - 1)
 left_is c =
     part_read c.args.side (entry c.args.a.now (c.loop-end.end - 1)) c.entry_of-left.result (c.requires.left (c.loop-end.end - 1) (pos 0) (omega (arith, c.loop-end.invariant.within))) c.entry_of-left.ensures
     ∙ sym (entry-part_of c.args.side c.args.a.now (c.loop-end.end - 1))
 
-right_is : (c : After-entry_of-right) → to_z w64 (of_z w64 c.entry_of-right.result) ≡ entry (part_of c.args.side c.args.b.now) (c.loop-end.end - 1)
+right_is : (c : After-entry_of-right) → as_entry c.entry_of-right.result ≡ entry (part_of c.args.side c.args.b.now) (c.loop-end.end - 1)
 right_is c =
     part_read c.args.side (entry c.args.b.now (c.loop-end.end - 1)) c.entry_of-right.result (c.requires.right (c.loop-end.end - 1) (pos 0) (omega (arith, c.loop-end.invariant.within))) c.entry_of-right.ensures
     ∙ sym (entry-part_of c.args.side c.args.b.now (c.loop-end.end - 1))

@@ -1,44 +1,44 @@
-use Rattle.std.proofs.Common.{◌≡◌, ◌-ℤ◌, ◌*ℤ◌, arith, ap, sym, subst, ◌∙◌, inl, inr}
-use mir.Syntax.{w64, w128}
-use mir.Val.{to_z, of_z, SFits}
-use Rattle.std.proofs.lemmas.Int.{ints, fits_signed_from_abs}
+use Rattle.std.proofs.Common.{◌≡◌, neg_ℤ, ◌-ℤ◌, ◌*ℤ◌, unsigned_abs, arith, ap, sym, subst, ◌∙◌, inl, inr, refl}
+use Rattle.mk_model.specs.declared.TheConstants.{ENTRY_MAX}
 use Rattle.mk_model.specs.Vectors.{IsEntry}
-use Rattle.mk_move.proofs.Weights.{IsEntry-fits}
-use Rattle.mk_move.proofs.Readings.{less, not_less, entry_read, IsStepRead, step_read}
+use Rattle.mk_move.proofs.Entries.{entry_read}
+use Rattle.mk_move.proofs.Factors.{IsFormed, formed}
+use Rattle.mk_move.proofs.Readings.{less, not_less}
 use Rattle.mk_move.proofs.steps.entry_less.Goals as goal
-use Rattle.mk_move.proofs.steps.entry_less.Goals.{After-from-3, Else-value-most-2, then-value-most-via-then-value-most, then-value-most-via-else-value-most+then-value-most-2}
+use Rattle.mk_move.proofs.steps.entry_less.Goals.{After-unsigned_abs, Else-unsigned_abs-most, then-value-via-then-value, then-value-via-else-value+then-value-gt-ENTRY_MAX}
 
-read : (c : After-from-3) → IsStepRead (to_z w128 (of_z w128 c.from.result)) (to_z w128 (of_z w128 (to_z w128 (of_z w128 c.from-2.result) *ℤ to_z w128 (of_z w128 c.from-3.result)))) (c.args.left -ℤ (c.args.times *ℤ c.args.right))
-read c =
-    step_read c.args.left c.args.times c.args.right c.from.result c.from-2.result c.from-3.result c.requires.left c.requires.times c.requires.right c.from.ensures c.from-2.ensures c.from-3.ensures
+size_is : (c : After-unsigned_abs) → c.unsigned_abs.result ≡ unsigned_abs c.args.right
+size_is c = c.unsigned_abs.ensures.value ∙ ap unsigned_abs (entry_read c.args.right c.requires.right)
+
+-- the product is formed
+formed_here : (c : Else-unsigned_abs-most) → c.unsigned_abs.result ≡ unsigned_abs c.args.right → IsFormed c.args.left c.args.times c.args.right
+formed_here c size =
+    formed c.args.left c.args.times c.args.right c.args.most c.requires.left c.requires.times c.requires.right c.requires.most (omega (arith, size, c.if-unsigned_abs-most.false))
+
+pub returns-then-unsigned_abs-most : goal.returns-then-unsigned_abs-most
+returns-then-unsigned_abs-most c =
+    let size = size_is (goal.at.returns-then-unsigned_abs-most c).After-unsigned_abs in
+    c.requires.most.beyond c.args.left c.args.right c.requires.left c.requires.right (omega (arith, size, c.if-unsigned_abs-most.true))
+
+pub overflow_mul-value : goal.overflow_mul-value
+overflow_mul-value c = (formed_here c (size_is (goal.at.overflow_mul-value c).After-unsigned_abs)).product
 
 pub overflow_sub-value : goal.overflow_sub-value
-overflow_sub-value c = (read c).fits
+overflow_sub-value c = (formed_here c (size_is (goal.at.overflow_sub-value c).After-unsigned_abs)).difference
 
-pub returns-then-value-most : goal.returns-then-value-most
-returns-then-value-most c =
-    let value = (read (goal.at.returns-then-value-most c).After-from-3).value in
-    elim c.then-value-most.branch [
-      | then-value-most-via-then-value-most w ↦ inl (less _ _ _ _ value (omega (arith, ints)) w.if-value-most.true)
-      | then-value-most-via-else-value-most+then-value-most-2 w ↦ inr (less _ _ _ _ (omega (arith, ints)) value w.if-value-most-2.true)
+pub returns-then-value : goal.returns-then-value
+returns-then-value c =
+    let at = goal.at.returns-then-value c in
+    let value = (formed_here at.Else-unsigned_abs-most (size_is at.After-unsigned_abs)).value in
+    elim c.then-value.branch [
+      | then-value-via-then-value w ↦ inl (less _ (neg_ℤ ENTRY_MAX) _ (neg_ℤ ENTRY_MAX) value refl w.if-value.true)
+      | then-value-via-else-value+then-value-gt-ENTRY_MAX w ↦ inr (less ENTRY_MAX _ ENTRY_MAX _ refl value w.if-value-gt-ENTRY_MAX.true)
     ]
-
--- the number is in the range of entries
-in_range : (c : Else-value-most-2) → IsEntry (c.args.left -ℤ (c.args.times *ℤ c.args.right))
-in_range c =
-    let value : to_z w128 (of_z w128 (to_z w128 (of_z w128 c.from.result) -ℤ to_z w128 (of_z w128 (to_z w128 (of_z w128 c.from-2.result) *ℤ to_z w128 (of_z w128 c.from-3.result))))) ≡ c.args.left -ℤ (c.args.times *ℤ c.args.right) =
-    (step_read c.args.left c.args.times c.args.right c.from.result c.from-2.result c.from-3.result c.requires.left c.requires.times c.requires.right c.from.ensures c.from-2.ensures c.from-3.ensures).value in
-    (not_less _ _ _ _ value (omega (arith, ints)) c.if-value-most.false, not_less _ _ _ _ (omega (arith, ints)) value c.if-value-most-2.false)
-
-pub overflow_cast-result : goal.overflow_cast-result
-overflow_cast-result c =
-    let value = (read (goal.at.overflow_cast-result c).After-from-3).value in
-    let range = in_range (goal.at.overflow_cast-result c).Else-value-most-2 in
-    subst (SFits w64) (sym value) (fits_signed_from_abs w64 _ (IsEntry-fits _ range))
 
 pub returns : goal.returns
 returns c =
-    let value = (read (goal.at.returns c).After-from-3).value in
-    let range = in_range (goal.at.returns c).Else-value-most-2 in
-    let same = ap (λ z. to_z w64 (of_z w64 z)) value ∙ entry_read (c.args.left -ℤ (c.args.times *ℤ c.args.right)) range in
-    record { same = same; range = subst IsEntry (sym same) range }
+    let at = goal.at.returns c in
+    let value = (formed_here at.Else-unsigned_abs-most (size_is at.After-unsigned_abs)).value in
+    let range : IsEntry (c.args.left -ℤ (c.args.times *ℤ c.args.right)) =
+    (not_less _ (neg_ℤ ENTRY_MAX) _ (neg_ℤ ENTRY_MAX) value refl c.if-value.false, not_less ENTRY_MAX _ ENTRY_MAX _ refl value c.if-value-gt-ENTRY_MAX.false) in
+    record { same = value; range = subst IsEntry (sym value) range }

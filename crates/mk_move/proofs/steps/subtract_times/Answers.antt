@@ -5,7 +5,7 @@ use Rattle.std.proofs.lemmas.Int.{to_z-of_z}
 use Rattle.mk_model.specs.Vectors.{zeros, weight, positive_part, IsEntry}
 use Rattle.mk_move.specs.Moves.{Weighed, IsMoveKept}
 use Rattle.mk_move.specs.Steps.{GivesEntries}
-use Rattle.mk_move.proofs.Readings.{entry_read}
+use Rattle.mk_move.proofs.Entries.{entry_read}
 use Rattle.mk_move.proofs.Differences.{length-given, weight-minus_times}
 use Rattle.mk_move.proofs.steps.subtract_times.Goals as goal
 use Rattle.mk_move.proofs.steps.subtract_times.Goals.{In_ok-entries, After-lead_weight-weight}
@@ -63,7 +63,7 @@ returns c =
       entries = same;
       graded = record {
         product = ap (weight w) same ∙ weight-minus_times w c.args.u.now.entries c.args.v.now.entries c.args.times (omega arith) c.requires.left c.requires.right;
-        weight = c.of_entries.ensures.weight ∙ to_z-of_z w128 c.lead_weight-weight.result fits ∙ c.lead_weight-weight.ensures ∙ ap (λ x. weight w (positive_part x)) (c.as_slice-2.ensures ∙ sym c.of_entries.ensures.entries);
+        weight = c.of_entries.ensures.weight ∙ to_z-of_z w128 c.lead_weight-weight.result fits ∙ c.lead_weight-weight.ensures.value ∙ ap (λ x. weight w (positive_part x)) (c.as_slice-2.ensures ∙ sym c.of_entries.ensures.entries);
       };
       kept = kept_entries _ _ _ c.of_entries.ensures.entries (kept (goal.at.returns c).After-lead_weight-weight (columns at) (given at).range c.of_entries.result.weight);
     }

@@ -1,10 +1,9 @@
 use Rattle.std.proofs.Common.{◌≡◌, ◌+◌, ℤ, pos, arith, sym, ap, subst, ◌∙◌, ◌-ℤ◌, ◌*ℤ◌, set}
-use mir.Syntax.{w64}
-use mir.Val.{to_z, of_z}
 use Rattle.mk_model.specs.Vectors.{entry}
 use Rattle.mk_model.specs.Overflows.{IsBeyond}
 use Rattle.mk_move.specs.Steps.{GivesEntry}
-use Rattle.mk_move.proofs.Readings.{entry_read, wide_read, less_read}
+use Rattle.mk_move.proofs.Entries.{as_entry, entry_read}
+use Rattle.mk_move.proofs.Readings.{less_read}
 use Rattle.mk_move.proofs.Differences.{IsTakenOff, one_taken, all_taken, taken_lesser}
 use Rattle.mk_move.proofs.steps.take_off.Goals as goal
 use Rattle.mk_move.proofs.steps.take_off.Goals.{In-loop-column}
@@ -19,10 +18,10 @@ entry_is : (c : In-loop-column) → entry c.loop-column.row c.loop-column.column
 entry_is c = c.loop-column.invariant.left c.loop-column.column (omega arith)
 
 -- the number at the column
-number : (c : In-loop-column) → to_z w64 (of_z w64 (entry c.loop-column.row c.loop-column.column)) -ℤ (to_z w64 (of_z w64 c.args.times) *ℤ to_z w64 (of_z w64 (entry c.args.right.now c.loop-column.column))) ≡ entry c.args.row.now c.loop-column.column -ℤ (c.args.times *ℤ entry c.args.right.now c.loop-column.column)
+number : (c : In-loop-column) → as_entry (entry c.loop-column.row c.loop-column.column) -ℤ (as_entry c.args.times *ℤ as_entry (entry c.args.right.now c.loop-column.column)) ≡ entry c.args.row.now c.loop-column.column -ℤ (c.args.times *ℤ entry c.args.right.now c.loop-column.column)
 number c =
     let n = c.loop-column.column in
-    ap (λ (a : ℤ). to_z w64 (of_z w64 a) -ℤ (to_z w64 (of_z w64 c.args.times) *ℤ to_z w64 (of_z w64 (entry c.args.right.now n)))) (entry_is c)
+    ap (λ (a : ℤ). as_entry a -ℤ (as_entry c.args.times *ℤ as_entry (entry c.args.right.now n))) (entry_is c)
     ∙ less_read (entry c.args.row.now n) c.args.times (entry c.args.right.now n) (c.requires.left n (pos 0) (omega arith)) c.requires.times (c.requires.right n (pos 0) (omega arith))
 
 pub returns-in_default-clause-refused : goal.returns-in_default-clause-refused
@@ -31,9 +30,9 @@ returns-in_default-clause-refused c =
     let at = (goal.at.returns-in_default-clause-refused c).In-loop-column in
     record {
       within = c.loop-column-test.true;
-      left = wide_read (entry c.args.row.now n) c.from.result (c.requires.left n (pos 0) (omega arith)) (c.from.ensures ∙ ap (λ (a : ℤ). to_z w64 (of_z w64 a)) (entry_is at));
-      times = wide_read c.args.times c.from-in_default.result c.requires.times c.from-in_default.ensures;
-      right = wide_read (entry c.args.right.now n) c.from-in_default-2.result (c.requires.right n (pos 0) (omega arith)) c.from-in_default-2.ensures;
+      left = ap (λ (a : ℤ). as_entry a) (entry_is at) ∙ entry_read (entry c.args.row.now n) (c.requires.left n (pos 0) (omega arith));
+      times = entry_read c.args.times c.requires.times;
+      right = entry_read (entry c.args.right.now n) (c.requires.right n (pos 0) (omega arith));
       beyond = subst IsBeyond (number at) c.in_default.ensures;
       lesser = taken_lesser c.args.row.now c.args.right.now c.args.times n c.loop-column.row (so_far at);
     }
@@ -43,7 +42,7 @@ loop-column-preserved c =
     let n = c.loop-column.column in
     let at = (goal.at.loop-column-preserved c).In-loop-column in
     let given : GivesEntry (entry c.args.row.now n -ℤ (c.args.times *ℤ entry c.args.right.now n)) c.in-Some.value = subst (λ (z : ℤ). GivesEntry z c.in-Some.value) (number at) c.in-Some.ensures in
-    subst (λ (z : ℤ). IsTakenOff c.args.row.now c.args.right.now z (n + 1) (set c.loop-column.row n (to_z w64 (of_z w64 c.in-Some.value)))) (sym (entry_read c.args.times c.requires.times))
+    subst (λ (z : ℤ). IsTakenOff c.args.row.now c.args.right.now z (n + 1) (set c.loop-column.row n (as_entry c.in-Some.value))) (sym (entry_read c.args.times c.requires.times))
     (subst (λ (z : ℤ). IsTakenOff c.args.row.now c.args.right.now c.args.times (n + 1) (set c.loop-column.row n z)) (sym (entry_read c.in-Some.value given.range))
     (one_taken c.args.row.now c.args.right.now c.args.times n c.loop-column.row c.in-Some.value (omega (arith, (so_far at).columns)) (so_far at) given))
 

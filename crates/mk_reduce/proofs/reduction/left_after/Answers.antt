@@ -1,5 +1,5 @@
 use Rattle.std.proofs.Common.{subst, List, ℤ}
-use Rattle.mk_move.proofs.Readings.{entry_read}
+use Rattle.mk_move.proofs.Entries.{entry_read}
 use Rattle.mk_move.specs.Steps.{TakesOff}
 use Rattle.mk_reduce.proofs.Beginnings.{vector_at}
 use Rattle.mk_reduce.proofs.BasisMoves.{columns_of}

@@ -18,8 +18,8 @@ times_dividing-count-requires-clause-divides c =
 
 pub returns-in-Plus-clause-step : goal.returns-in-Plus-clause-step
 returns-in-Plus-clause-step c =
-    plus_step c.args.basis.now.moves c.args.rest.now.entries c.args.place c.move_at.result.now c.args.side c.times_dividing-count.result c.in-Plus.is c.times_dividing-count.type_inv c.move_at.ensures.value c.times_dividing-count.ensures
+    plus_step c.args.basis.now.moves c.args.rest.now.entries c.args.place c.move_at.result.now c.args.side c.times_dividing-count.result c.in-Plus.is c.times_dividing-count.ensures.range c.move_at.ensures.value c.times_dividing-count.ensures.most
 
 pub returns-in-Minus-clause-step : goal.returns-in-Minus-clause-step
 returns-in-Minus-clause-step c =
-    minus_step c.args.basis.now.moves c.args.rest.now.entries c.args.place c.move_at.result.now c.args.side c.times_dividing-count.result c.in-Minus.is c.times_dividing-count.type_inv c.move_at.ensures.value c.times_dividing-count.ensures
+    minus_step c.args.basis.now.moves c.args.rest.now.entries c.args.place c.move_at.result.now c.args.side c.times_dividing-count.result c.in-Minus.is c.times_dividing-count.ensures.range c.move_at.ensures.value c.times_dividing-count.ensures.most

@@ -1,10 +1,8 @@
-use Rattle.std.proofs.Common.{◌≡◌, ◌++◌, List, ℕ, ap, ◌∙◌, arith, rules, get_or, pos}
-use mir.Syntax.{w64, w128}
-use mir.Val.{SFits, to_z, of_z}
-use Rattle.std.proofs.lemmas.Int.{to_z-of_z}
+use Rattle.std.proofs.Common.{◌≡◌, ◌++◌, List, ℕ, ap, ◌∙◌, arith, get_or, pos}
 use Rattle.std.proofs.lemmas.List.Elements.{All-get_or}
 use Rattle.std.specs.Fmt.{signed_decimal}
 use Rattle.mk_model.specs.Vectors.{IsEntry}
+use Rattle.mk_move.proofs.Entries.{as_entry, entry_read}
 use Rattle.mk_writer.specs.Lines.{space_before}
 use Rattle.mk_writer.proofs.MoveLines.{one_entry_more}
 use Rattle.mk_writer.proofs.line.set_move.Goals as goal
@@ -14,10 +12,7 @@ loop-column-preserved c =
     let entries = c.args.next.now.entries in
     let column = c.loop-column.column in
     let in_range : IsEntry (get_or entries column (pos 0)) = All-get_or IsEntry entries column (pos 0) (omega arith) c.columns-column-end.ensures.kept.entries in
-    let wide : SFits w128 c.entry.result = search rules in
-    let fits : SFits w64 (get_or entries column (pos 0)) = search rules in
-    let entry : to_z w64 (of_z w64 (to_z w128 (of_z w128 c.entry.result))) ≡ get_or entries column (pos 0) =
-    ap (λ z. to_z w64 (of_z w64 z)) (to_z-of_z w128 c.entry.result wide ∙ c.entry.ensures) ∙ to_z-of_z w64 _ fits in
+    let entry : as_entry c.entry.result ≡ get_or entries column (pos 0) = ap (λ z. as_entry z) c.entry.ensures ∙ entry_read _ in_range in
     record {
       text =
           c.push_entry.ensures.text

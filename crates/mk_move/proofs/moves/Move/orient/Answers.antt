@@ -1,11 +1,11 @@
 use Rattle.std.proofs.Common.{◌≡◌, ◌<ℤ◌, pos, length, rules, sym, ap, ◌∙◌, refl}
-use mir.Syntax.{w64}
-use mir.Val.{to_z, of_z, SFits}
+use mir.Val.{SFits}
 use Rattle.std.specs.List.{refill}
 use Rattle.std.proofs.lemmas.Int.{to_z-of_z}
 use Rattle.mk_model.specs.Vectors.{negate}
 use Rattle.mk_model.proofs.VectorAlgebra.{length-negate}
 use Rattle.mk_move.specs.Moves.{Weighed, IsRowOriented, first_along}
+use Rattle.mk_move.proofs.Entries.{as_entry, entry_width}
 use Rattle.mk_move.proofs.Readings.{less, not_less}
 use Rattle.mk_move.proofs.Parts.{row_turned, IsKept-oriented}
 use Rattle.mk_move.proofs.Blocks.{masks_turned}
@@ -17,8 +17,8 @@ use Rattle.mk_move.proofs.moves.Move.orient.Goals.{After-first_entry, After-self
 first_is : (c : After-first_entry) → c.first_entry.result ≡ first_along c.args.priority.now c.self.inside.entries.items
 first_is c = rw (c.as_slice.ensures, c.as_slice-2.ensures.value) at c.first_entry.ensures
 
-first_read : (c : After-first_entry) → to_z w64 (of_z w64 c.first_entry.result) ≡ c.first_entry.result
-first_read c = let fits : SFits w64 c.first_entry.result = search rules in to_z-of_z w64 c.first_entry.result fits
+first_read : (c : After-first_entry) → as_entry c.first_entry.result ≡ c.first_entry.result
+first_read c = let fits : SFits entry_width c.first_entry.result = search rules in to_z-of_z entry_width c.first_entry.result fits
 
 -- the entries after they were turned
 turned : (c : After-self-1) → refill (length c.self.inside.entries.items) c.self.inside.entries.items c.negate_all.new.row ≡ negate c.self.inside.entries.items

@@ -46,9 +46,14 @@ fn lattices_have_their_answer(rt: HostRuntime) -> Result<(), Fail> {
             "1 8\n1 -1 -1 1 -1 1 1 -1\n",
         ),
         (
-            "1 2\n9223372036854775807 -9223372036854775807\n",
+            "1 2\n1208925819614629174706175 -1208925819614629174706175\n",
             OTHER,
-            "1 2\n9223372036854775807 -9223372036854775807\n",
+            "1 2\n1208925819614629174706175 -1208925819614629174706175\n",
+        ),
+        (
+            "2 3\n9223372036854775808 -9223372036854775808 0\n0 9223372036854775808 -9223372036854775808\n",
+            OTHER,
+            "2 3\n0 9223372036854775808 -9223372036854775808\n9223372036854775808 0 -9223372036854775808\n",
         ),
         // Rows that are bases of their lattices or not, and moves beyond the rows. White space is free.
         (CUBIC, OTHER, CUBIC_MOVES),
@@ -177,12 +182,12 @@ fn lattices_are_refused_with_their_line(rt: HostRuntime) -> Result<(), Fail> {
             "markov: P.lat: line 1, byte 2: more than 512 columns\n",
         ),
         (
-            "1 2\n9223372036854775808 -1\n",
+            "1 2\n1208925819614629174706176 -1\n",
             OTHER,
             "markov: P.lat: line 2, byte 4: number out of range\n",
         ),
         (
-            "1 2\n1 -9223372036854775808\n",
+            "1 2\n1 -1208925819614629174706176\n",
             OTHER,
             "markov: P.lat: line 2, byte 6: number out of range\n",
         ),
@@ -244,31 +249,38 @@ fn lattices_are_refused_with_their_line(rt: HostRuntime) -> Result<(), Fail> {
     Ok(())
 }
 
-// Where an entry leaves its range, by the book and the line: in the difference of a pair, in a step of its reduction, and in one on
-// the tail of a move.
+// Where an entry leaves its range, by the book and the line: in the difference of a pair, in a step of its reduction, in one whose
+// product is far out of range, and in one on the tail of a move.
 #[test]
 fn entries_leave_their_range(rt: HostRuntime) -> Result<(), Fail> {
     let rows = [
         (
-            "2 4\n1 4611686018427387905 0 -4611686018427387906\n1 -4611686018427387905 4611686018427387905 -1\n",
+            "2 4\n1 604462909807314587353089 0 -604462909807314587353090\n1 -604462909807314587353089 604462909807314587353089 -1\n",
             OTHER,
             OverflowPlace::Pair { phase: 0 },
             None,
-            "markov: overflow in column 2: 4611686018427387905 - (1) * (-4611686018427387905)\n",
+            "markov: overflow in column 2: 604462909807314587353089 - (1) * (-604462909807314587353089)\n",
         ),
         (
-            "2 3\n0 -4611686018427387903 4611686018427387903\n4611686018427387903 -9223372036854775806 -4611686018427387903\n",
+            "2 3\n0 -604462909807314587353087 604462909807314587353087\n604462909807314587353087 -1208925819614629174706174 -604462909807314587353087\n",
             ("P.grade", "1 3\n3 1 1\n"),
             OverflowPlace::Pair { phase: 0 },
             Some(0),
-            "markov: overflow in column 3: 9223372036854775806 - (1) * (-4611686018427387903)\n",
+            "markov: overflow in column 3: 1208925819614629174706174 - (1) * (-604462909807314587353087)\n",
         ),
         (
-            "3 4\n2305843009213693950 0 1152921504606846975 -4611686018427387900\n0 1152921504606846975 1152921504606846975 -1152921504606846975\n0 2305843009213693950 -3458764513820540925 0\n",
+            "2 4\n-3 1 0 0\n-1208925819614629174706175 1208925819614629174706175 -1208925819614629174706175 -1208925819614629174706175\n",
+            ("P.grade", "1 4\n1 3 1 1\n"),
+            OverflowPlace::Pair { phase: 0 },
+            Some(0),
+            "markov: overflow in column 1: -1208925819614629174706172 - (1208925819614629174706174) * (-3)\n",
+        ),
+        (
+            "3 4\n302231454903657293676542 0 151115727451828646838271 -604462909807314587353084\n0 151115727451828646838271 151115727451828646838271 -151115727451828646838271\n0 302231454903657293676542 -453347182355485940514813 0\n",
             ("P.grade", "1 4\n9 3 2 5\n"),
             OverflowPlace::Tail { index: 2 },
             Some(1),
-            "markov: overflow in column 3: 0 - (-3) * (-3458764513820540925)\n",
+            "markov: overflow in column 3: 0 - (-3) * (-453347182355485940514813)\n",
         ),
     ];
     for (lattice, beside, place, by, line) in rows {

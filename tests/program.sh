@@ -122,8 +122,8 @@ ends 'a word that is no text' 1 "$usage" $'P\xff'
 ends 'no P.lat' 2 'markov: P.lat: not there' P
 given P.mar '7 7\nan older answer\n'
 ends 'no P.lat under an older answer' 2 'markov: P.lat: not there' P
-given P.lat '2 4\n1 4611686018427387905 0 -4611686018427387906\n1 -4611686018427387905 4611686018427387905 -1\n'
-ends 'an entry leaves its range' 4 'markov: overflow in column 2: 4611686018427387905 - (1) * (-4611686018427387905)' P
+given P.lat '2 4\n1 604462909807314587353089 0 -604462909807314587353090\n1 -604462909807314587353089 604462909807314587353089 -1\n'
+ends 'an entry leaves its range' 4 'markov: overflow in column 2: 604462909807314587353089 - (1) * (-604462909807314587353089)' P
 fresh
 given -P.lat '1 2\n2 -2\n'
 made -P.mar '1 2\n2 -2\n'

@@ -16,10 +16,10 @@ const CUBIC: &str = "2 4\n1 -2 1 0\n0 -1 2 -1\n";
 const TURNED: &str = "2 4\n-1 2 -1 0\n0 -1 2 -1\n";
 
 const LARGE: &str =
-    "2 4\n1 4611686018427387905 0 -4611686018427387906\n1 -4611686018427387905 4611686018427387905 -1\n";
+    "2 4\n1 604462909807314587353089 0 -604462909807314587353090\n1 -604462909807314587353089 604462909807314587353089 -1\n";
 
 const STEEP: &str =
-    "3 4\n1 0 0 -1\n0 4611686018427387904 4611686018427387903 -9223372036854775807\n4 -3 0 -1\n";
+    "3 4\n1 0 0 -1\n0 604462909807314587353088 604462909807314587353087 -1208925819614629174706175\n4 -3 0 -1\n";
 
 const OVERLAPPING: &str = "3 4\n1 1 -1 -1\n1 -1 1 -1\n-1 1 1 -1\n";
 
@@ -28,9 +28,9 @@ const NO_DIFFERENCE: Stop = Stop::Overflow {
     by: None,
     at: OverflowAt {
         column: 1,
-        left: -4611686018427387905,
+        left: -604462909807314587353089,
         times: 1,
-        right: 4611686018427387905,
+        right: 604462909807314587353089,
     },
 };
 
@@ -39,7 +39,7 @@ const NO_STEP: Stop = Stop::Overflow {
     by: Some(0),
     at: OverflowAt {
         column: 3,
-        left: 9223372036854775806,
+        left: 1208925819614629174706174,
         times: 4,
         right: -1,
     },
@@ -58,7 +58,8 @@ fn assert_left(rt: &(impl Abort + AllocGlobal), work: &Work, text: &str) -> Resu
 // calls stops: then the steps done stay.
 #[test]
 fn pairs_are_reduced(rt: HostRuntime) -> Result<(), Fail> {
-    let steep = "1 4\n4 -4611686018427387907 -4611686018427387903 9223372036854775806\n";
+    let steep =
+        "1 4\n4 -604462909807314587353091 -604462909807314587353087 1208925819614629174706174\n";
     let rows = [
         (
             CUBIC,

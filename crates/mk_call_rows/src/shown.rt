@@ -49,7 +49,7 @@ pub(crate) fn assert_row(rt: &impl Abort, m: &Move, wanted: &Table, row: u32) {
     let entries = wanted.row(row);
     assert_eq!(rt; m.columns() as usize, entries.len());
     for (column, entry) in entries.iter().enumerate() {
-        assert_eq!(rt; m.entry(column as u32), i128::from(*entry), "row {row}");
+        assert_eq!(rt; m.entry(column as u32), *entry, "row {row}");
     }
 }
 

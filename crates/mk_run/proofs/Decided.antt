@@ -2,13 +2,13 @@
 use Rattle.std.proofs.Common.{ℕ, ◌≤◌, List, length, Some, ap, refl, subst, ◌∙◌, inl, inr}
 use Rattle.mk_model.specs.Lattices.{nonzero_rows}
 use Rattle.mk_model.specs.Tables.{Grid, rows_of, lattice_of_table}
+use Rattle.mk_model.proofs.OneRowStops.{no_stop}
 use Rattle.mk_desk.specs.Folders.{Desk, State, Rose}
 use Rattle.mk_input.specs.Projects.{project_files}
 use Rattle.mk_input.proofs.OneReading.{one_fault, not_both, one_problem}
 use Rattle.mk_solve.specs.Books.{Book, book_as, stop_as}
 use Rattle.mk_run.specs.Runs.{default_budget, HasStopOf, HasCauseOf, BooksProblem, IsStopped, Ends, IsDecided}
 use Rattle.mk_run.specs.declared.status.Status.{Status}
-use Rattle.mk_run.proofs.FewRows.{no_stop}
 use Rattle.mk_run.specs.declared.status.Status.TheVariants.{Done, Usage, Input, Folder, Overflow, Budget, Memory, Full}
 
 module _ (project : List ℕ) (book : Book) (before after : State) where
@@ -24,8 +24,8 @@ module _ (project : List ℕ) (book : Book) (before after : State) where
     solvable = λ lat w problem. inl (inr stop);
     one_row = λ lat w problem few.
         let same = (one_problem (project_files x.files project) lat h.cause.lat w h.cause.grading problem h.cause.problem).0 in
-        absurd (no_stop (lattice_of_table h.cause.lat h.cause.grading) default_budget (book_as book) (stop_as h.stop) h.cause.problem.positive
-        (subst (λ (g : Grid). length (nonzero_rows (rows_of g)) ≤ 1) same few) h.cause.fact.cause);
+        absurd (no_stop (lattice_of_table h.cause.lat h.cause.grading) h.cause.problem.positive (subst (λ (g : Grid). length (nonzero_rows (rows_of g)) ≤ 1) same few)
+        default_budget (book_as book) (stop_as h.stop) h.cause.fact.cause);
   }
 
   pub done_decided : (x z : Desk) → BooksProblem (project_files x.files project) book → Decided Done x z

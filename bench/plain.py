@@ -5,8 +5,9 @@ It completes along the list of each column and then the standard list, reduces t
 as docs/DEFINITIONS.md says. Where several steps are free it takes what the program takes: the positive part first, and the first
 place whose lead divides. Without BOUND nothing leaves the range.
 
-Usage: bench/plain.py PROJECT [BOUND]
-Prints the essential moves as PROJECT.mar has them; or where an entry leaves the range: the place, the pair or index, by which move,
+Usage: bench/plain.py [--skips] [--journal] PROJECT [BOUND]
+With --skips a pair of disjoint leads isn't reduced, nor one that a third move settles. With --journal it prints how each pair of
+each phase was settled, and how many there are, in place of the moves. Else it prints the essential moves as PROJECT.mar has them; or where an entry leaves the range: the place, the pair or index, by which move,
 and the line that the program says. The grading is that of PROJECT.grade, or all ones.
 """
 
@@ -44,9 +45,21 @@ def lists(columns):
     return [[c] + [d for d in standard if d != c] for c in range(columns)] + [standard]
 
 
+def disjoint(a, b):
+    return not any(map(min, a, b))
+
+
+def chain(leads, settled, i, j):
+    """The least third move by which the pair is settled, or none."""
+    lcm = tuple(map(max, leads[i], leads[j]))
+    for k in range(len(leads)):
+        if k not in (i, j) and divides(leads[k], lcm) and {tuple(sorted((i, k))), tuple(sorted((j, k)))} <= settled:
+            return k
+
+
 class Run:
-    def __init__(self, bound):
-        self.bound, self.place = bound, None
+    def __init__(self, bound, skips=False):
+        self.bound, self.skips, self.place, self.journals = bound, skips, None, []
 
     def less(self, u, times, v, pair, by):
         for column, (a, b) in enumerate(zip(u, v)):
@@ -73,13 +86,27 @@ class Run:
                 return r
             r = after
 
+    def settle(self, priority, moves, settled, i, j):
+        """How the pair is settled: by its leads, through a third move, by zero or by the move of a place."""
+        leads = [positive(m) for m in moves]
+        if self.skips and disjoint(leads[i], leads[j]):
+            return "Coprime"
+        third = chain(leads, settled, i, j) if self.skips else None
+        if third is not None:
+            return f"Chain {third}"
+        r = self.remainder(moves, i, j)
+        if r is None:
+            return "Zero"
+        moves.append(oriented(priority, r))
+        return f"Place {len(moves) - 1}"
+
     def complete(self, priority, moves):
-        j = 1
+        settled, j = set(), 1
+        self.journals.append([])
         while j < len(moves):
             for i in range(j):
-                r = self.remainder(moves, i, j)
-                if r is not None:
-                    moves.append(oriented(priority, r))
+                self.journals[-1].append(((i, j), self.settle(priority, moves, settled, i, j)))
+                settled.add((i, j))
             j += 1
         leads = [positive(m) for m in moves]
         return [m for i, m in enumerate(moves) if not any(
@@ -100,7 +127,7 @@ class Run:
         for j in range(len(lower)):
             for i in range(j):
                 a, b = positive(lower[i]), positive(lower[j])
-                if not any(map(min, a, b)) or weight(grading, map(max, a, b)) != heavy:
+                if disjoint(a, b) or weight(grading, map(max, a, b)) != heavy:
                     continue
                 r = self.remainder(lower, i, j)
                 while r is not None and any(r):
@@ -135,16 +162,23 @@ def table(name):
 
 
 def main():
-    project, bound = sys.argv[1], int(sys.argv[2]) if len(sys.argv) > 2 else None
+    options = [word for word in sys.argv[1:] if word in ("--skips", "--journal")]
+    project, *bound = [word for word in sys.argv[1:] if word not in options]
     columns, rows = table(project + ".lat")
     try:
         grading = table(project + ".grade")[1][0]
     except FileNotFoundError:
         grading = (1,) * columns
+    run = Run(int(bound[0]) if bound else None, "--skips" in options)
     try:
-        moves = Run(bound).solve(rows, grading)
+        moves = run.solve(rows, grading)
     except Overflow as overflow:
         print(overflow)
+        return
+    if "--journal" in options:
+        for phase, journal in enumerate(run.journals):
+            print(f"phase {phase}, {len(journal)} pairs:", *(f"{pair} {how};" for pair, how in journal))
+        print("pairs in all:", sum(map(len, run.journals)))
         return
     print(len(moves), columns)
     for m in moves:

@@ -137,7 +137,7 @@ length-freed_by_rows p [] left = refl
 length-freed_by_rows p (row ∷ rows) left = length-freed_by_rows p rows (freed_by_row p row left) ∙ length-freed_by_row p row left
 
 -- ---- the moves stay connected
-max_zero : (a : ℤ) → a ≤ℤ pos 0 → int_max a (pos 0) ≡ pos 0
+pub max_zero : (a : ℤ) → a ≤ℤ pos 0 → int_max a (pos 0) ≡ pos 0
 max_zero a h = omega (arith, ints, clamps)
 
 abbrev with_column : (ℕ → Bool) → ℕ → ℕ → Bool

@@ -1,5 +1,5 @@
 -- The books of two lattices.
-use Rattle.std.proofs.Common.{◌≡◌, inl, inr, ℕ, List, [], ◌∷◌, None, ℤ, pos, negsuc, ◌<ℤ◌, All, Contains, arith, refl}
+use Rattle.std.proofs.Common.{◌≡◌, inl, inr, ℕ, List, [], ◌∷◌, None, ℤ, pos, ◌<ℤ◌, All, Contains, arith, refl}
 use Rattle.std.proofs.lemmas.Int.{ints}
 use Rattle.std.proofs.lemmas.Option.{none-some}
 use Rattle.std.proofs.lemmas.List.Elements.{All-nil, All-cons, All-contains}
@@ -10,6 +10,7 @@ use Rattle.mk_model.specs.Bases.{IsMove}
 use Rattle.mk_model.specs.Reductions.{IsIrreducible}
 use Rattle.mk_model.specs.ReducedBases.{IsReducedBasis}
 use Rattle.mk_model.specs.Saturation.{divides}
+use Rattle.mk_model.specs.FreeColumns.{bound_columns, is_within, without_support}
 use Rattle.mk_model.specs.CoreStates.{pair_of}
 use Rattle.mk_model.specs.Books.{settled_in, IsPhaseAlong, IsPhaseEnded, BookIsComplete, BookIsUnderWay, HasStopped}
 use Rattle.mk_model.specs.Books.PlainStop.{Budget}
@@ -71,20 +72,16 @@ lone_ended : (list : List ℕ) (move : List ℤ) → IsPhaseEnded (lone_phase li
 lone_ended list move = record { all_settled = λ pair h. absurd (omega (arith, h.ordered, h.within)); none_claimed = λ worker. refl }
 
 pub complete : BookIsComplete unit_lattice unit_book
-unfolding negate positive_part negative_part
+unfolding negate positive_part negative_part bound_columns is_within without_support
 complete = record {
   rest = unit_move ∷ [];
   phases = (
-    lone_along (0 ∷ 1 ∷ []) unit_move (negsuc 0 ∷ pos 1 ∷ []) (record { either = inr refl; oriented = oriented_by_test (0 ∷ 1 ∷ []) (negsuc 0 ∷ pos 1 ∷ []) refl }),
-    lone_ended (0 ∷ 1 ∷ []) (negsuc 0 ∷ pos 1 ∷ []),
+    lone_along (1 ∷ 0 ∷ []) unit_move unit_move (record { either = inl refl; oriented = oriented_by_test (1 ∷ 0 ∷ []) unit_move refl }),
+    lone_ended (1 ∷ 0 ∷ []) unit_move,
     (
-      lone_along (1 ∷ 0 ∷ []) (negsuc 0 ∷ pos 1 ∷ []) unit_move (record { either = inr refl; oriented = oriented_by_test (1 ∷ 0 ∷ []) unit_move refl }),
+      lone_along (1 ∷ 0 ∷ []) unit_move unit_move (record { either = inl refl; oriented = oriented_by_test (1 ∷ 0 ∷ []) unit_move refl }),
       lone_ended (1 ∷ 0 ∷ []) unit_move,
-      (
-        lone_along (1 ∷ 0 ∷ []) unit_move unit_move (record { either = inl refl; oriented = oriented_by_test (1 ∷ 0 ∷ []) unit_move refl }),
-        lone_ended (1 ∷ 0 ∷ []) unit_move,
-        (refl, refl),
-      ),
+      (refl, refl),
     ),
   );
   basis = unit_move ∷ [];
@@ -97,7 +94,7 @@ begun = record { rest = cubic_rows; left = _; phases = (refl, refl); reduced = i
 
 -- ---- no budget
 pub stopped : HasStopped cubic_lattice 0 starved_book (Budget 0)
-unfolding negate positive_part negative_part settled_in
+unfolding negate positive_part negative_part settled_in bound_columns is_within without_support
 stopped = (
   refl,
   refl,

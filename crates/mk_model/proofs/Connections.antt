@@ -85,6 +85,17 @@ connected_from_markov n rows unsaturated moves markov x y q r h = record {
   joined = rw (add-zeros x n (omega (arith, q.columns)), add-zeros y n (omega (arith, r.columns))) (markov.joins x y q r h);
 }
 
+-- ---- up to more columns
+pub connected_in_columns : (n : ℕ) (rows moves : List (List ℤ)) (unsaturated wider : ℕ → Bool) → ((c : ℕ) → c < n → wider c ≡ false → unsaturated c ≡ false) → ConnectedUpTo n rows unsaturated moves → ConnectedUpTo n rows wider moves
+connected_in_columns n rows moves unsaturated wider f connected x y q r h = go (connected x y q r h)
+  where
+    go : JoinedUpTo n unsaturated moves x y → JoinedUpTo n wider moves x y
+    go j = record { added = j.added; point = j.point; supported = λ c e. support c e (cases_lt c n); joined = j.joined }
+      where
+        support : (c : ℕ) → wider c ≡ false → (c < n) ⊎ (n ≤ c) → entry j.added c ≡ pos 0
+        support c e (inl l) = j.supported c (f c l e)
+        support c e (inr l) = get_or_past j.added c (pos 0) (omega (arith, j.point.columns))
+
 -- ---- a column leaves after completion for a priority list that begins with it
 module _ {n : ℕ} {rows : List (List ℤ)} {w : List ℤ} {i : ℕ} {p : List ℕ} {moves : List (List ℤ)} (o : AreOrientedMoves (lattice_of n rows w) (i ∷ p) moves) where
   -- leads have no entry in the column

@@ -16,6 +16,7 @@ pub mod NormalForms
 pub mod Dropping
 pub mod Connections
 pub mod RowConnections
+pub mod FreeColumns
 pub mod ReductionExamples
 pub mod Fibres
 pub mod MoveRanks

@@ -1,9 +1,10 @@
 -- What the book of a run says of a lattice, as plain data: its phases, one after another, the reduced basis, and why it
 -- stopped. (Sturmfels, chapters 1, 5 and 12: saturation; Hemmecke and Malkin 2009. The book is this project's own.)
 use Rattle.std.specs.Prelude.{◌≡◌, ◌⊎◌, ℕ, ◌+◌, ◌<◌, List, [], ◌∷◌, ◌++◌, length, Option, None, Some, ℤ}
-use Rattle.std.specs.List.{range_with_len, AllZip}
+use Rattle.std.specs.List.{AllZip}
 use Rattle.mk_model.specs.CoreStates.{Pair, Settle, CoreState, OverflowStop, phase_state, start_of, IsFree}
 use Rattle.mk_model.specs.Events.{IsFull, IsPairOverflow}
+use Rattle.mk_model.specs.FreeColumns.{bound_columns}
 use Rattle.mk_model.specs.Lattices.{Lattice, nonzero_rows}
 use Rattle.mk_model.specs.Legal.{IsLegal, IsEnded}
 use Rattle.mk_model.specs.Orders.{standard, list_of_column, IsRowTurned}
@@ -52,10 +53,6 @@ abbrev pub lists_for : ℕ → List ℕ → List (List ℕ)
 lists_for n [] = standard n ∷ []
 lists_for n (column ∷ columns) = list_of_column n column ∷ lists_for n columns
 
--- every column, from the first to the last
-abbrev pub all_columns : ℕ → List ℕ
-all_columns n = range_with_len 0 n
-
 -- a phase along a list, which begins with these moves, each turned by the list, and is legal
 pub record IsPhaseAlong (n : ℕ) (moves : List (List ℤ)) (list : List ℕ) (phase : PlainPhase) : Type 0 where
   pub priority : phase.priority ≡ list
@@ -74,10 +71,10 @@ Saturate n moves [] (phase ∷ phases) rest left = ⊥
 Saturate n moves (list ∷ lists) (phase ∷ phases) rest left =
     IsPhaseAlong n moves list phase × IsPhaseEnded phase × Saturate n (drop_redundant phase.basis) lists phases rest left
 
--- the phases of a lattice, as far as they are ended
+-- the phases of a lattice, as far as they are ended: for each column that isn't free, and then the last
 abbrev pub SaturateLattice : Lattice → List PlainPhase → List (List ℤ) → List (List ℕ) → Type 0
 SaturateLattice lattice phases rest left =
-    Saturate lattice.columns (nonzero_rows lattice.rows) (lists_for lattice.columns (all_columns lattice.columns)) phases rest left
+    Saturate lattice.columns (nonzero_rows lattice.rows) (lists_for lattice.columns (bound_columns lattice.columns lattice.rows)) phases rest left
 
 -- Every phase is ended, and the reduced basis of the lattice is made.
 pub record BookIsComplete (lattice : Lattice) (book : PlainBook) : Type 0 where

@@ -10,6 +10,7 @@ pub mod Texts
 pub mod Reductions
 pub mod Pairs
 pub mod Saturation
+pub mod FreeColumns
 pub mod ReducedBases
 pub mod CoreStates
 pub mod Overflows

@@ -1,5 +1,6 @@
 -- The orders of vectors and of moves. (Sturmfels, chapters 4 and 5: a term order, leading and trailing terms)
-use Rattle.std.specs.Prelude.{◌≡◌, ◌⊎◌, ℕ, zero, suc, ◌==◌, not, List, [], ◌∷◌, filter, ℤ, ◌<ℤ◌}
+use Rattle.std.specs.Prelude.{◌≡◌, ◌⊎◌, ℕ, zero, suc, ◌==◌, not, if◌then◌else◌, List, [], ◌∷◌, filter, ℤ, pos, ◌<ℤ◌, int_le}
+use Rattle.std.specs.Ordering.{int_eq}
 use Rattle.mk_model.specs.Vectors.{entry, negate, positive_part, negative_part, weight}
 
 -- Along a priority list of columns: at the first column of it where they differ, x has the larger entry.
@@ -24,6 +25,15 @@ IsOriented p v = IsBelow p (negative_part v) (positive_part v)
 pub record IsRowTurned (p : List ℕ) (row move : List ℤ) : Type 0 where
   pub either : (move ≡ row) ⊎ (move ≡ negate row)
   pub oriented : IsOriented p move
+
+-- the first entry along a list of columns that isn't 0, or 0
+abbrev pub first_along : List ℕ → List ℤ → ℤ
+first_along [] row = pos 0
+first_along (c ∷ columns) row = if int_eq (entry row c) (pos 0) then first_along columns row else entry row c
+
+-- the row, or its negative where the first nonzero entry along the list is positive
+abbrev pub oriented_by : List ℕ → List ℤ → List ℤ
+oriented_by p row = if int_le (first_along p row) (pos 0) then row else negate row
 
 -- the end of an oriented move that isn't below the other, and the other end
 abbrev pub lead : List ℤ → List ℤ

@@ -242,7 +242,13 @@ tail_moves = tail_heavy ∷ like_first ∷ []
 abbrev pub tail_stop : OverflowStop
 tail_stop = stop_at (pair_of 0 0) (Some 1) (Some tail_heavy) 2 (neg_ℤ ENTRY_MAX) (neg_ℤ (pos 1)) (neg_ℤ (pos 1))
 
--- ---- books: of the lattice of (1 -1), whose phases have no pair
+-- ---- free columns: three rows of which each two have leads that overlap, along every list
+abbrev pub overlapping_rows : List (List ℤ)
+overlapping_rows =
+    (pos 1 ∷ pos 1 ∷ neg_ℤ (pos 1) ∷ neg_ℤ (pos 1) ∷ []) ∷ (pos 1 ∷ neg_ℤ (pos 1) ∷ pos 1 ∷ neg_ℤ (pos 1) ∷ [])
+    ∷ (pos 1 ∷ neg_ℤ (pos 1) ∷ neg_ℤ (pos 1) ∷ pos 1 ∷ []) ∷ []
+
+-- ---- books: of the lattice of (1 -1), whose phases have no pair; column 0 is free
 abbrev pub unit_lattice : Lattice
 unit_lattice = lattice_of 2 (unit_move ∷ []) (ones 2)
 
@@ -251,8 +257,7 @@ lone_phase list move = record { priority = list; start_length = 1; basis = move 
 
 abbrev pub unit_book : PlainBook
 unit_book = record {
-  phases = lone_phase (0 ∷ 1 ∷ []) (neg_ℤ (pos 1) ∷ pos 1 ∷ []) ∷ lone_phase (1 ∷ 0 ∷ []) unit_move
-      ∷ lone_phase (1 ∷ 0 ∷ []) unit_move ∷ [];
+  phases = lone_phase (1 ∷ 0 ∷ []) unit_move ∷ lone_phase (1 ∷ 0 ∷ []) unit_move ∷ [];
   reduced = Some (unit_move ∷ []);
 }
 

@@ -19,13 +19,14 @@ ghost use Rattle.mk_model.specs.Reductions.{lcm, Divides, Reaches, IsDescent, Me
 ghost use Rattle.mk_model.specs.Pairs.{AreOrientedMoves, IsPointBelow, AreDisjoint, JoinedBelow, EveryPairJoined};
 ghost use Rattle.mk_model.specs.Saturation.{IsSupported, every_column, without_column, JoinedUpTo, ConnectedUpTo};
 ghost use Rattle.mk_model.specs.Saturation.{IsSignedRow, divides, has_divisor, is_redundant, needed, drop_redundant, NoneRedundant};
+ghost use Rattle.mk_model.specs.FreeColumns.{all_columns, columns_left, freed_by, bound_columns};
 ghost use Rattle.mk_model.specs.CoreStates.{CoreState, pair_of, settle, difference, IsPairOf, IsLesser};
 ghost use Rattle.mk_model.specs.CoreStates.Way.{Coprime, Zero, Place};
 ghost use Rattle.mk_model.specs.CoreStates.Halt.{Overflow, Full, Memory};
 ghost use Rattle.mk_model.specs.Overflows.{IsGenuineOverflow, IsTailOverflow, IsPairOfWeight};
 ghost use Rattle.mk_model.specs.Events.{IsChain, Happens, HappenInTurn, with_claim};
 ghost use Rattle.mk_model.specs.Events.Event.{Claims, Settles, Halts};
-ghost use Rattle.mk_model.specs.Books.{lists_for, all_columns, BookIsComplete, BookIsUnderWay, HasStopped};
+ghost use Rattle.mk_model.specs.Books.{lists_for, BookIsComplete, BookIsUnderWay, HasStopped};
 ghost use Rattle.mk_model.specs.Books.PlainStop.{Budget};
 ghost use Rattle.mk_model.specs.Legal.{Replays, IsLegal, IsEnded};
 ghost use Rattle.mk_model.specs.Worked.{unit_move, double_move, fourfold_move, double_lattice};
@@ -42,7 +43,7 @@ ghost use Rattle.mk_model.specs.Worked.{completed_moves, placing, reducing, skip
 ghost use Rattle.mk_model.specs.Worked.{narrow_state, far_moves, difference_stop, step_moves};
 ghost use Rattle.mk_model.specs.Worked.{step_stop, chain_moves, far_state, IsHalted};
 ghost use Rattle.mk_model.specs.Worked.{ended_phase, tail_moves, tail_stop, unit_lattice};
-ghost use Rattle.mk_model.specs.Worked.{unit_book, starved_book};
+ghost use Rattle.mk_model.specs.Worked.{unit_book, starved_book, overlapping_rows};
 
 /// Entries, sums, multiples, parts and weights of vectors; points, and the range of entries.
 pub fn vector_examples()
@@ -311,12 +312,26 @@ pub fn halt_examples()
         (Claims 0 ∷ Halts 0 Memory ∷ Claims worker ∷ []) after) }
 {}
 
-/// The book of the lattice of `(1 -1)`: phases along the lists of the columns 0 and 1 and along the
-/// standard list, and the reduced basis. The book that begins. And the book of the twisted cubic
-/// that stops with a budget of 0 pairs.
+/// The rows of the twisted cubic free the columns 1 and 3, counted from 0: the second of them by its
+/// negative, as `(0 1 -2 1)`. Three like columns free 0 and 1, and so do three rows with overlapping
+/// leads. No column outside the support of a row leaves.
+pub fn free_column_examples()
+    ensures first_row { freed_by cubic_first (true ∷ true ∷ true ∷ true ∷ []) ≡ (true ∷ false ∷ true ∷ true ∷ []) }
+    ensures not_within { freed_by cubic_second (true ∷ false ∷ true ∷ true ∷ []) ≡ (true ∷ false ∷ true ∷ true ∷ []) }
+    ensures by_the_negative { freed_by cubic_bottom (true ∷ false ∷ true ∷ true ∷ []) ≡ (true ∷ false ∷ true ∷ false ∷ []) }
+    ensures cubic { bound_columns 4 cubic_rows ≡ (0 ∷ 2 ∷ []) }
+    ensures like { bound_columns 3 like_rows ≡ (2 ∷ []) }
+    ensures overlapping { bound_columns 4 overlapping_rows ≡ (2 ∷ 3 ∷ []) }
+    ensures no_rows { bound_columns 4 [] ≡ all_columns 4 }
+    ensures left { columns_left (true ∷ false ∷ true ∷ false ∷ []) ≡ (0 ∷ 2 ∷ []) }
+{}
+
+/// The book of the lattice of `(1 -1)`: phases along the list of column 1, as column 0 is free, and
+/// along the standard list, and the reduced basis. The book that begins. And the book of the twisted
+/// cubic that stops with a budget of 0 pairs.
 pub fn book_examples()
-    ensures lists { lists_for 4 (all_columns 4) ≡ (0 ∷ 3 ∷ 2 ∷ 1 ∷ []) ∷ (1 ∷ 3 ∷ 2 ∷ 0 ∷ []) ∷ (2 ∷ 3 ∷ 1 ∷ 0 ∷ [])
-        ∷ (3 ∷ 2 ∷ 1 ∷ 0 ∷ []) ∷ standard 4 ∷ [] }
+    ensures lists { lists_for 4 (bound_columns 4 cubic_rows)
+        ≡ (0 ∷ 3 ∷ 2 ∷ 1 ∷ []) ∷ (2 ∷ 3 ∷ 1 ∷ 0 ∷ []) ∷ standard 4 ∷ [] }
     ensures complete { BookIsComplete unit_lattice unit_book }
     ensures begun { BookIsUnderWay cubic_lattice (record { phases = []; reduced = None }) }
     ensures stopped { HasStopped cubic_lattice 0 starved_book (Budget 0) }

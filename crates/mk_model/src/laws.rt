@@ -11,6 +11,7 @@ ghost use Rattle.mk_model.specs.Orders.{IsBelow, standard, IsOriented, lead, Com
 ghost use Rattle.mk_model.specs.Bases.{IsMinimalMarkovBasis, IsAnswer, ListsEssentialMoves, IsEssential, MovesBefore, IsMarkov, IsMinimal};
 ghost use Rattle.mk_model.specs.Reductions.{lcm, Divides, Meet, Reduct, IsIrreducible};
 ghost use Rattle.mk_model.specs.Pairs.{AreOrientedMoves, JoinedBelow, EveryPairJoined, AreDisjoint};
+ghost use Rattle.mk_model.specs.FreeColumns.{is_left, freed_by_rows};
 ghost use Rattle.mk_model.specs.Saturation.{IsSupported, every_column, without_column, ConnectedUpTo, IsSignedRow, drop_redundant, NoneRedundant};
 ghost use Rattle.mk_model.specs.ReducedBases.{IsLeast, IsReducedBasis, LighterMoves, IsLeastOfComponent, IsStarMove};
 ghost use Rattle.mk_model.specs.CoreStates.{Settle, CoreState, start_of, new_state, phase_state};
@@ -177,6 +178,15 @@ pub fn conn_free()
         IsSupported columns (negative_part u) → pos 1 ≤ℤ entry u i →
         ConnectedUpTo lattice.columns lattice.rows columns moves →
         ConnectedUpTo lattice.columns lattice.rows (without_column columns i) moves }
+{}
+
+/// The columns that moves free, one move after another, may leave: the moves stay connected up to
+/// the columns that are left.
+pub fn free_columns_leave()
+    ensures { (lattice : Lattice) (priority : List ℕ) (moves : List (List ℤ)) (left : List Bool) →
+        HasGrading lattice → All (InLattice lattice.columns lattice.rows) moves →
+        ConnectedUpTo lattice.columns lattice.rows (is_left left) moves →
+        ConnectedUpTo lattice.columns lattice.rows (is_left (freed_by_rows priority moves left)) moves }
 {}
 
 /// The moves of an answer join all nonnegative vectors that differ by the lattice.

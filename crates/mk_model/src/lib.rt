@@ -12,9 +12,9 @@ mod plain;
 
 pub use book_laws::one_row_never_stops;
 pub use examples::{
-    answer_examples, book_examples, chain_examples, event_examples, grading_examples,
-    grading_fault_examples, halt_examples, journal_examples, lattice_examples, order_examples,
-    overflow_examples, pair_examples, reduced_basis_examples, reduction_examples,
+    answer_examples, book_examples, chain_examples, event_examples, free_column_examples,
+    grading_examples, grading_fault_examples, halt_examples, journal_examples, lattice_examples,
+    order_examples, overflow_examples, pair_examples, reduced_basis_examples, reduction_examples,
     redundancy_examples, saturation_examples, state_examples, table_examples, table_fault_examples,
     text_examples, token_examples, vector_examples, walk_examples,
 };
@@ -24,10 +24,10 @@ pub use laws::{
     connected_by_rows, connected_up_to_none_is_markov, drop_redundant_apart, drop_redundant_covers,
     each_text_is_a_table_or_has_a_fault, ended_is_joined, essential_is_markov,
     essential_is_minimal, essential_moves_are_stars, events_keep_legal, every_fibre_is_finite,
-    irreducible_is_least, join_chain, join_translate, least_vector_is_unique, lighter_members_join,
-    move_order_is_strict_and_total, phase_is_legal, reached_is_legal, reduced_basis_divides,
-    reduced_basis_has_the_essential_moves, reduced_basis_is_markov, reduced_basis_is_unique,
-    replay_goes_on,
+    free_columns_leave, irreducible_is_least, join_chain, join_translate, least_vector_is_unique,
+    lighter_members_join, move_order_is_strict_and_total, phase_is_legal, reached_is_legal,
+    reduced_basis_divides, reduced_basis_has_the_essential_moves, reduced_basis_is_markov,
+    reduced_basis_is_unique, replay_goes_on,
 };
 pub use plain::{divides, is_below};
 use std::alloc::{AllocError, AllocFailed};

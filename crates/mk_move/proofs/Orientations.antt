@@ -6,7 +6,8 @@ use Rattle.std.proofs.lemmas.Bool.{cases_eq}
 use Rattle.std.proofs.lemmas.List.{ext_get_or, length-set, get_or-set_same, get_or-set_other, take_at}
 use Rattle.mk_model.specs.Vectors.{entry, zeros, negate, weight, positive_part, negative_part}
 use Rattle.mk_model.proofs.VectorAlgebra.{entry-negate, length-negate, weight-negate, weight-parts, positive_part-negate}
-use Rattle.mk_move.specs.Moves.{Weighed, IsGraded, IsRowOriented, first_along}
+use Rattle.mk_model.specs.Orders.{first_along}
+use Rattle.mk_move.specs.Moves.{Weighed, IsGraded, IsRowOriented}
 use Rattle.mk_move.specs.Priorities.{IsPriority}
 use Rattle.mk_move.proofs.Parts.{row_as_it_is, zero_row}
 

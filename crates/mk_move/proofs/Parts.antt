@@ -11,7 +11,8 @@ use Rattle.mk_model.specs.Vectors.{entry, zeros, negate, positive_part, negative
 use Rattle.mk_model.specs.Orders.{IsOriented}
 use Rattle.mk_model.proofs.VectorAlgebra.{entry-positive_part, entry-negative_part, entry-negate, entry-zeros, length-negate}
 use Rattle.mk_model.proofs.OrderLaws.{IsOriented-not_zero}
-use Rattle.mk_move.specs.Moves.{first_along, Weighed, IsMoveKept, IsRowOriented}
+use Rattle.mk_model.specs.Orders.{first_along}
+use Rattle.mk_move.specs.Moves.{Weighed, IsMoveKept, IsRowOriented}
 use Rattle.mk_move.specs.Priorities.{IsPriority}
 
 IsEntry-max : (a : ℤ) → IsEntry a → IsEntry (int_max a (pos 0))

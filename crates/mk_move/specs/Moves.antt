@@ -1,8 +1,6 @@
 -- What a move is seen as, and what reading one from a row gives.
 use Rattle.std.specs.Prelude.{◌≡◌, ◌≢◌, ◌⊎◌, ◌≤◌, ℕ, List, length, All, Option, Some, None, Result, Ok, Err, ℤ, pos, ◌<ℤ◌}
-use Rattle.std.specs.Prelude.{[], ◌∷◌, if◌then◌else◌}
-use Rattle.std.specs.Ordering.{int_eq}
-use Rattle.mk_model.specs.Vectors.{entry, zeros, weight, positive_part, IsEntry}
+use Rattle.mk_model.specs.Vectors.{zeros, weight, positive_part, IsEntry}
 use Rattle.mk_model.specs.Orders.{IsRowTurned, IsBelow, standard, lead, tail}
 use Rattle.mk_move.specs.declared.moves.MoveFault.{MoveFault}
 use Rattle.mk_move.specs.declared.moves.MoveFault.TheVariants.{Memory, NotGraded}
@@ -34,11 +32,6 @@ ReadsRow row w p (Ok None) = row ≡ zeros (length row)
 ReadsRow row w p (Ok (Some m)) = (weight w row ≡ pos 0) × IsMoveOfRow row w p m
 ReadsRow row w p (Err Memory) = Unit {0}
 ReadsRow row w p (Err (NotGraded value)) = (value ≡ weight w row) × (value ≢ pos 0)
-
--- the first entry along a list of columns that isn't 0, or 0
-abbrev pub first_along : List ℕ → List ℤ → ℤ
-first_along [] row = pos 0
-first_along (c ∷ columns) row = if int_eq (entry row c) (pos 0) then first_along columns row else entry row c
 
 -- the product with the grading is 0, and the weight is that of the lead
 pub record IsGraded (w : List ℤ) (m : Weighed) : Type 0 where

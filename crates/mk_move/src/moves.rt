@@ -1,6 +1,7 @@
 ghost use Rattle.std.specs.Prelude.{◌≡◌, ◌<◌, List, ℤ, length, map, IfOk, MatchOption, All};
 ghost use Rattle.mk_model.specs.Vectors.{IsEntry, entry, negate, zeros};
-ghost use Rattle.mk_move.specs.Moves.{IsMoveKept, IsRowOriented, IsGraded, ReadsRow, first_along};
+ghost use Rattle.mk_model.specs.Orders.{first_along};
+ghost use Rattle.mk_move.specs.Moves.{IsMoveKept, IsRowOriented, IsGraded, ReadsRow};
 ghost use Rattle.mk_move.specs.Masks.{IsMask};
 ghost use Rattle.mk_move.specs.Sides.{part_of};
 

@@ -14,11 +14,12 @@ use Rattle.mk_move.specs.Moves.{Weighed}
 use Rattle.mk_move.specs.MoveLists.{lattice_spanned, BasisView, IsBasis, vectors_of}
 use Rattle.mk_model.specs.Orders.{IsRowTurned}
 use Rattle.mk_saturate.specs.Starts.{IsFirstUngraded}
-use Rattle.mk_saturate.specs.Saturations.{is_left, IsSaturation}
+use Rattle.mk_model.specs.FreeColumns.{is_left}
+use Rattle.mk_saturate.specs.Saturations.{IsSaturation}
 use Rattle.mk_saturate.proofs.RowsTurned.{got_is, got_within}
 use Rattle.mk_saturate.proofs.Spans.{SameLattice-transitive, nonzero_columns, nonzero_lattice}
 use Rattle.mk_saturate.proofs.Turned.{turned_lattice}
-use Rattle.mk_saturate.proofs.Dropped.{connected_in_columns}
+use Rattle.mk_model.proofs.Connections.{connected_in_columns}
 
 -- where each row is graded, none is refused
 pub none_ungraded : (rows : List (List ℤ)) (w : List ℤ) (value : ℤ) → All (λ row. weight w row ≡ pos 0) rows → IsFirstUngraded rows w value → ⊥

@@ -9,15 +9,17 @@ use Rattle.mk_model.specs.Lattices.{lattice_of, HasGrading, SameLattice}
 use Rattle.mk_model.specs.Legal.{IsLegal}
 use Rattle.mk_model.specs.Orders.{standard}
 use Rattle.mk_model.specs.Pairs.{EveryPairJoined}
+use Rattle.mk_model.specs.FreeColumns.{is_left}
 use Rattle.mk_model.specs.Saturation.{without_column, ConnectedUpTo, drop_redundant, NoneRedundant}
+use Rattle.mk_model.proofs.Connections.{connected_in_columns}
 use Rattle.mk_model.proofs.Dropping.{drop_redundant_apart}
 use Rattle.mk_move.specs.MoveLists.{BasisView, IsBasis, vectors_of}
 use Rattle.mk_core.specs.Phases.{state_of}
 use Rattle.mk_core.specs.SaturatedBases.{IsSaturated}
 use Rattle.mk_core.specs.declared.phase.Phase.{Phase}
-use Rattle.mk_saturate.specs.Saturations.{SaturationView, is_left, IsSaturation, NoneLeft, IsPhaseFromBasis, IsNeeded, IsDropped}
+use Rattle.mk_saturate.specs.Saturations.{SaturationView, IsSaturation, NoneLeft, IsPhaseFromBasis, IsNeeded, IsDropped}
 use Rattle.mk_saturate.proofs.Beginnings.{basis_graded}
-use Rattle.mk_saturate.proofs.Dropped.{connected_in_columns, drop_redundant_short, kept_lattice, kept_pairs, kept_markov, column_saturated}
+use Rattle.mk_saturate.proofs.Dropped.{drop_redundant_short, kept_lattice, kept_pairs, kept_markov, column_saturated}
 use Rattle.mk_saturate.proofs.TurnedMoves.{length-vectors}
 
 -- ---- columns that are left

@@ -61,16 +61,6 @@ module _ (n : ℕ) (moves : List (List ℤ)) (a : AllColumns n moves) where
       (InLattice-add n moves (subtract x y) (subtract y z) (step_in_lattice x y q s) (walk_in_lattice rest))
 
 -- ---- columns and lattices of a connection
-pub connected_in_columns : (n : ℕ) (rows moves : List (List ℤ)) (unsaturated wider : ℕ → Bool) → ((c : ℕ) → c < n → wider c ≡ false → unsaturated c ≡ false) → ConnectedUpTo n rows unsaturated moves → ConnectedUpTo n rows wider moves
-connected_in_columns n rows moves unsaturated wider f connected x y q r h = go (connected x y q r h)
-  where
-    go : JoinedUpTo n unsaturated moves x y → JoinedUpTo n wider moves x y
-    go j = record { added = j.added; point = j.point; supported = λ c e. support c e (cases_lt c n); joined = j.joined }
-      where
-        support : (c : ℕ) → wider c ≡ false → (c < n) ⊎ (n ≤ c) → entry j.added c ≡ pos 0
-        support c e (inl l) = j.supported c (f c l e)
-        support c e (inr l) = get_or_past j.added c (pos 0) (omega (arith, j.point.columns))
-
 pub connected_in_lattice : (n : ℕ) (rows others moves : List (List ℤ)) (unsaturated : ℕ → Bool) → SameLattice n rows others → ConnectedUpTo n rows unsaturated moves → ConnectedUpTo n others unsaturated moves
 connected_in_lattice n rows others moves unsaturated same connected x y q r h = connected x y q r (same.back (subtract x y) h)
 

@@ -5,4 +5,6 @@ pub mod Dropped
 pub mod TurnedMoves
 pub mod Beginnings
 pub mod Completions
+pub mod ColumnsLeft
+pub mod FreedMoves
 pub mod Jobs

@@ -22,7 +22,7 @@ pub turned_row : (p : List ℕ) (row entries : List ℤ) → IsRowOriented row p
 turned_row p row entries h = record { either = h.turned.either; oriented = h.turned.oriented }
 
 -- ---- one move more
-entries_at : (rows : List Weighed) (k : ℕ) (row : Weighed) → slice_get rows k ≡ Some row → get_or (vectors_of rows) k [] ≡ row.entries
+pub entries_at : (rows : List Weighed) (k : ℕ) (row : Weighed) → slice_get rows k ≡ Some row → get_or (vectors_of rows) k [] ≡ row.entries
 entries_at [] k row e = absurd (cc)
 entries_at (r ∷ rows) zero row e = let same : r ≡ row = cc in ap (λ (m : Weighed). m.entries) same
 entries_at (r ∷ rows) (suc k) row e = entries_at rows k row e

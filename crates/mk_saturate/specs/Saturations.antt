@@ -2,6 +2,7 @@
 -- the standard list. (Sturmfels, chapter 12; Hemmecke and Malkin 2009)
 use Rattle.std.specs.Prelude.{◌≡◌, ℕ, ◌<◌, ◌≤◌, Bool, true, false, List, [], ◌∷◌, ◌++◌, take, length, get_or, Option, None, Some}
 use Rattle.std.specs.List.{AllZip}
+use Rattle.mk_model.specs.FreeColumns.{is_left}
 use Rattle.mk_model.specs.Lattices.{SameLattice}
 use Rattle.mk_model.specs.Saturation.{ConnectedUpTo, drop_redundant}
 use Rattle.mk_move.specs.Moves.{Weighed}
@@ -16,10 +17,6 @@ use Rattle.mk_model.specs.Orders.{IsRowTurned}
 pub record SaturationView : Type 0 where
   pub basis : BasisView
   pub left : List Bool
-
--- is a column unsaturated
-abbrev pub is_left : List Bool → ℕ → Bool
-is_left left column = get_or left column false
 
 -- The moves connect, up to the unsaturated columns, all nonnegative vectors that differ by the lattice which they span.
 pub record IsSaturation (saturation : SaturationView) : Type 0 where

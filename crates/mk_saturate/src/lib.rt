@@ -2,6 +2,7 @@
 #![tactic(auto)]
 
 mod columns;
+mod freeing;
 mod saturation;
 mod start;
 mod turning;

@@ -1,4 +1,5 @@
-ghost use Rattle.std.specs.Prelude.{◌≡◌, ℕ, ◌<◌, ◌≤◌, true, false, ◌∷◌, length, replicate, set, All, IfOk, OnOk, OnErr, pos};
+ghost use Rattle.std.specs.Prelude.{◌≡◌, ◌+◌, ℕ, ◌<◌, ◌≤◌, true, false, ◌∷◌, length, replicate, set, All, IfOk, OnOk, OnErr, pos};
+ghost use Rattle.mk_model.specs.FreeColumns.{is_left, columns_left, freed_by_rows};
 ghost use Rattle.mk_model.specs.Lattices.{SameLattice};
 ghost use Rattle.mk_model.specs.Orders.{standard};
 ghost use Rattle.mk_model.specs.Tables.{rows_of};
@@ -6,9 +7,10 @@ ghost use Rattle.mk_model.specs.Vectors.{weight};
 ghost use Rattle.mk_move.specs.MoveLists.{vectors_of};
 ghost use Rattle.mk_move.specs.Priorities.{others};
 ghost use Rattle.mk_saturate.specs.Starts.{IsStart};
-ghost use Rattle.mk_saturate.specs.Saturations.{is_left, IsSaturation, IsLeastLeft, NoneLeft, IsJob, IsNextJob, IsPhaseFromBasis, IsNeeded, IsDropped};
+ghost use Rattle.mk_saturate.specs.Saturations.{IsSaturation, IsLeastLeft, NoneLeft, IsJob, IsNextJob, IsPhaseFromBasis, IsNeeded, IsDropped};
 
 use crate::columns::{least_left, saturate_least};
+use crate::freeing::free_by_moves;
 use crate::start::start_basis;
 use crate::turning::job_along;
 use mk_core::{Completed, Job, SaturatedBasis, drop_redundant};
@@ -58,6 +60,16 @@ impl Saturation {
         ensures kept { IsSaturation self.now }
     {
         self.left[column as usize]
+    }
+
+    /// Saturates the free columns without completion, and answers how many. The moves go by in their order, each as the standard
+    /// list orients it and then as the negative of that: where all columns of its negative part are unsaturated, those of its
+    /// positive part are saturated.
+    pub fn free_columns(&mut self) -> u32
+        ensures left { self.new ≡ record self.old { left = freed_by_rows (standard (length self.old.basis.grading)) (vectors_of self.old.basis.moves) self.old.left } }
+        ensures count { length (columns_left self.old.left) ≡ result + length (columns_left self.new.left) }
+    {
+        free_by_moves(&self.basis, &mut self.left)
     }
 
     /// The job of the least unsaturated column, along the list that names it first, and none exactly where no column is left.

@@ -1,18 +1,20 @@
 -- The columns of a run, one after another.
 use Rattle.std.proofs.Common.{◌≡◌, ◌⊎◌, inl, inr, ℕ, zero, suc, ◌+◌, ◌-◌, ◌≤◌, ◌<◌, ◌^◌, Bool, true, false, List, [], ◌∷◌, length, replicate, set, Some, Err, ℤ, refl, arith, ap, sym, ◌∙◌, subst, length-set}
-use Rattle.std.specs.List.{range_with_len}
-use Rattle.std.proofs.lemmas.Bool.{cases_eq, cases_lt, both_ways}
-use Rattle.std.proofs.lemmas.List.{get_or-replicate, length-replicate, get_or-set_same, get_or-set_other}
+use Rattle.std.specs.List.{AllZip}
+use Rattle.std.proofs.lemmas.Bool.{cases_lt, both_ways}
+use Rattle.std.proofs.lemmas.List.{length-replicate}
 use Rattle.std.proofs.lemmas.List.Elements.{All-nil}
 use Rattle.mk_model.specs.Lattices.{nonzero_rows, SameLattice}
-use Rattle.mk_model.specs.Orders.{standard}
+use Rattle.mk_model.specs.Orders.{standard, IsRowTurned}
 use Rattle.mk_model.specs.Books.{lists_for}
+use Rattle.mk_model.specs.FreeColumns.{is_left, columns_left, freed_by_rows, bound_columns}
+use Rattle.mk_model.proofs.FreeColumns.{freed_by_turned, length-freed_by_rows}
 use Rattle.mk_move.specs.MoveLists.{BasisView, vectors_of}
 use Rattle.mk_move.specs.Priorities.{others}
 use Rattle.mk_core.specs.declared.phase.Job.{Job}
 use Rattle.mk_saturate.specs.Starts.{IsStart}
-use Rattle.mk_saturate.specs.Saturations.{SaturationView, is_left, IsLeastLeft, NoneLeft, IsJob, IsNextJob}
-use Rattle.mk_saturate.proofs.Completions.{left_within}
+use Rattle.mk_saturate.specs.Saturations.{SaturationView, IsLeastLeft, NoneLeft, IsJob, IsNextJob}
+use Rattle.mk_saturate.proofs.ColumnsLeft.{column_fewer, least_first, none_left_over, left_short}
 use Rattle.mk_solve.specs.Books.{Book, empty_book, settled_of}
 use Rattle.mk_solve.specs.Solutions.{IsPhaseKept, Solves}
 use Rattle.mk_solve.specs.Steps.{StopsIn, TakesPhase, IsLeastTaken, TakesColumn, TakesLast}
@@ -21,15 +23,12 @@ use Rattle.mk_solve.specs.declared.solving.RunStop.TheVariants.{Memory, Stopped}
 use Rattle.mk_solve.proofs.Sums.{none_settled, length-push}
 use Rattle.mk_solve.proofs.Reached.{lattice_with, either_turned, IsReached, bases_kept, reached_solves, reached_on, stopped_solves}
 
--- The columns from one on are left, as many as the count says, and for each column before it the book has a phase.
+-- The lists of the columns that are left are ahead, and for each column that was saturated by completion the book has a phase.
 pub record IsSaturating (rows : List (List ℤ)) (w : List ℤ) (budget : ℕ) (saturation : SaturationView) (book : Book) : Type 0 where
-  pub count : ℕ
   pub rest : List (List ℤ)
-  pub columns : length book.phases + count ≡ length w
+  pub columns : length book.phases + length (columns_left saturation.left) ≤ length w
   pub sized : length saturation.left ≡ length w
-  pub before : (c : ℕ) → c < length book.phases → is_left saturation.left c ≡ false
-  pub onwards : (c : ℕ) → length book.phases ≤ c → c < length w → is_left saturation.left c ≡ true
-  pub reached : IsReached rows w budget rest saturation.basis book (lists_for (length w) (range_with_len (length book.phases) count))
+  pub reached : IsReached rows w budget rest saturation.basis book (lists_for (length w) (columns_left saturation.left))
 
 -- ---- the run begins
 pub nothing_kept : (rows : List (List ℤ)) (w : List ℤ) (budget : ℕ) (book : Book) → book ≡ empty_book → Solves (lattice_with rows w) budget (Err Memory) book
@@ -40,71 +39,80 @@ nothing_kept rows w budget book e = subst (λ (b : Book). Solves (lattice_with r
   ends = (refl, record { rest = nonzero_rows rows; left = _; phases = (refl, refl); reduced = inl refl });
 })
 
-pub begins : (rows : List (List ℤ)) (w : List ℤ) (n budget : ℕ) (saturation : SaturationView) (book : Book) → length w ≡ n → IsStart rows w (standard n) saturation.basis →
-    saturation.left ≡ replicate n true → SameLattice n rows (vectors_of saturation.basis.moves) → book ≡ empty_book → IsSaturating rows w budget saturation book
-begins rows w n budget saturation book same start left lattice e = subst (λ (b : Book). IsSaturating rows w budget saturation b) (sym e) (record {
-  count = length w;
+-- the free columns left those that are unsaturated
+pub record IsFreed (started next : SaturationView) : Type 0 where
+  pub freed : next ≡ record started { left = freed_by_rows (standard (length started.basis.grading)) (vectors_of started.basis.moves) started.left }
+
+module _ (rows : List (List ℤ)) (w : List ℤ) (n : ℕ) (started : SaturationView) (same : length w ≡ n) (start : IsStart rows w (standard n) started.basis) (left : started.left ≡ replicate n true) where
+  freed_from : (c : SaturationView) → IsFreed started c → c.left ≡ freed_by_rows (standard (length w)) (nonzero_rows rows) (replicate (length w) true)
+  freed_from c f =
+      ap (λ (s : SaturationView). s.left) f.freed
+      ∙ ap (λ (v : List ℤ). freed_by_rows (standard (length v)) (vectors_of started.basis.moves) started.left) start.grading
+      ∙ ap (λ (flags : List Bool). freed_by_rows (standard (length w)) (vectors_of started.basis.moves) flags) (left ∙ ap (λ k. replicate k true) (sym same))
+      ∙ sym (freed_by_turned (standard (length w)) (nonzero_rows rows) (vectors_of started.basis.moves) (replicate (length w) true) (subst (λ k. AllZip (IsRowTurned (standard k)) (nonzero_rows rows) (vectors_of started.basis.moves)) (sym same) start.moves))
+
+  columns_bound : (c : SaturationView) → IsFreed started c → columns_left c.left ≡ bound_columns (length w) rows
+  unfolding bound_columns
+  columns_bound c f = ap columns_left (freed_from c f)
+
+  freed_sized : (c : SaturationView) → IsFreed started c → length c.left ≡ length w
+  freed_sized c f = ap length (freed_from c f) ∙ length-freed_by_rows (standard (length w)) (nonzero_rows rows) (replicate (length w) true) ∙ length-replicate (length w) true
+
+pub begins : (rows : List (List ℤ)) (w : List ℤ) (n budget : ℕ) (started next : SaturationView) (book : Book) → length w ≡ n → IsStart rows w (standard n) started.basis →
+    started.left ≡ replicate n true → SameLattice n rows (vectors_of started.basis.moves) → IsFreed started next → book ≡ empty_book → IsSaturating rows w budget next book
+begins rows w n budget started next book same start left lattice f e = subst (λ (b : Book). IsSaturating rows w budget next b) (sym e) (record {
   rest = nonzero_rows rows;
-  columns = omega arith;
-  sized = ap length left ∙ length-replicate n true ∙ sym same;
-  before = λ c l. absurd (omega (arith, l));
-  onwards = λ c k l. ap (λ (flags : List Bool). is_left flags c) left ∙ get_or-replicate n c true false (omega (arith, l, same));
-  reached = record {
-    phases = (refl, refl);
+  columns = omega (arith, left_short next.left, sized);
+  sized = sized;
+  reached = subst (λ (b : BasisView). IsReached rows w budget (nonzero_rows rows) b empty_book (lists_for (length w) (columns_left next.left))) (sym (ap (λ (s : SaturationView). s.basis) f.freed)) (record {
+    phases = (refl, ap (lists_for (length w)) (columns_bound rows w n started same start left next f));
     kept = All-nil (IsPhaseKept w);
-    turned = either_turned (standard n) (nonzero_rows rows) (vectors_of saturation.basis.moves) start.moves;
-    lattice = subst (λ k. SameLattice k rows (vectors_of saturation.basis.moves)) (sym same) lattice;
+    turned = either_turned (standard n) (nonzero_rows rows) (vectors_of started.basis.moves) start.moves;
+    lattice = subst (λ k. SameLattice k rows (vectors_of started.basis.moves)) (sym same) lattice;
     grading = start.grading;
     input = refl;
     reduced = refl;
     stop = refl;
     within = omega (arith, none_settled);
-  };
+  });
 })
+  where
+    sized : length next.left ≡ length w
+    sized = freed_sized rows w n started same start left next f
+
+least_is_one : (left : List Bool) (column other : ℕ) → IsLeastLeft left column → IsLeastLeft left other → column ≡ other
+least_is_one left column other h k = go (cases_lt column other) (cases_lt other column)
+  where
+    go : (column < other) ⊎ (other ≤ column) → (other < column) ⊎ (column ≤ other) → column ≡ other
+    go (inl l) m = absurd (both_ways (is_left left column) (k.least column l) h.left_over)
+    go (inr l) (inl m) = absurd (both_ways (is_left left other) (h.least other m) k.left_over)
+    go (inr l) (inr m) = omega (arith, l, m)
 
 module _ (rows : List (List ℤ)) (w : List ℤ) (budget : ℕ) (saturation : SaturationView) (book : Book) (h : IsSaturating rows w budget saturation book) where
   -- ---- the next column
-  column_within : (column : ℕ) → IsLeastLeft saturation.left column → column < length w
-  column_within column least = omega (arith, left_within saturation.left column least.left_over, h.sized)
-
-  column_is : (column : ℕ) → IsLeastLeft saturation.left column → column ≡ length book.phases
-  column_is column least = go (cases_lt column (length book.phases)) (cases_lt (length book.phases) column)
-    where
-      go : (column < length book.phases) ⊎ (length book.phases ≤ column) → (length book.phases < column) ⊎ (column ≤ length book.phases) → column ≡ length book.phases
-      go (inl l) k = absurd (both_ways (is_left saturation.left column) (h.before column l) least.left_over)
-      go (inr l) (inl k) =
-          absurd (both_ways (is_left saturation.left (length book.phases)) (least.least (length book.phases) k) (h.onwards (length book.phases) (omega arith) (omega (arith, k, column_within column least))))
-      go (inr l) (inr k) = omega (arith, l, k)
-
   -- the run up to the next column, and the lists that are left behind it
-  pub record IsAtColumn (job : Job) (column more : ℕ) : Type 0 where
-    pub counted : column ≡ length book.phases
-    pub columns : column + suc more ≡ length w
+  pub record IsAtColumn (job : Job) (column : ℕ) : Type 0 where
+    pub least : IsLeastLeft saturation.left column
+    pub columns : length book.phases + suc (length (columns_left (set saturation.left column false))) ≤ length w
     pub over : IsJob saturation.basis (column ∷ others column (length w)) (budget - settled_of book.phases) job
-    pub reached : IsReached rows w budget h.rest saturation.basis book ((column ∷ others column (length w)) ∷ lists_for (length w) (range_with_len (column + 1) more))
+    pub reached : IsReached rows w budget h.rest saturation.basis book ((column ∷ others column (length w)) ∷ lists_for (length w) (columns_left (set saturation.left column false)))
 
-  at_count : (job : Job) (column count : ℕ) → column ≡ length book.phases → column < length w → length book.phases + count ≡ length w →
-      IsReached rows w budget h.rest saturation.basis book (lists_for (length w) (range_with_len (length book.phases) count)) →
-      IsJob saturation.basis (column ∷ others column (length w)) (budget - settled_of book.phases) job → (more : ℕ) × IsAtColumn job column more
-  at_count job column zero e l k r j = absurd (omega (arith, e, l, k))
-  at_count job column (suc more) e l k r j = (
-    more,
+  pub at_column : (job : Job) → IsNextJob saturation (budget - settled_of book.phases) (Some job) → (column : ℕ) × IsAtColumn job column
+  at_column job (column, least, j) = (
+    column,
     record {
-      counted = e;
-      columns = omega (arith, e, k);
-      over = j;
-      reached = subst (λ c. IsReached rows w budget h.rest saturation.basis book (lists_for (length w) (range_with_len c (suc more)))) (sym e) r;
+      least = least;
+      columns = omega (arith, h.columns, ap length first);
+      over = subst (λ n. IsJob saturation.basis (column ∷ others column n) (budget - settled_of book.phases) job) (ap length h.reached.grading) j;
+      reached = subst (λ columns. IsReached rows w budget h.rest saturation.basis book (lists_for (length w) columns)) first h.reached;
     },
   )
-
-  pub at_column : (job : Job) → IsNextJob saturation (budget - settled_of book.phases) (Some job) → (column : ℕ) × (more : ℕ) × IsAtColumn job column more
-  at_column job (column, least, j) =
-      let (more, at) = at_count job column h.count (column_is column least) (column_within column least) h.columns h.reached
-      (subst (λ n. IsJob saturation.basis (column ∷ others column n) (budget - settled_of book.phases) job) (ap length h.reached.grading) j) in
-      (column, more, at)
+    where
+      first : columns_left saturation.left ≡ column ∷ columns_left (set saturation.left column false)
+      first = least_first saturation.left column least.left_over least.least
 
   pub room : (job : Job) → IsNextJob saturation (budget - settled_of book.phases) (Some job) → length w ≤ 512 → length book.phases + 1 < 2 ^ 32
-  room job next few = let (column, more, at) = at_column job next in omega (arith, at.counted, at.columns, few)
+  room job next few = let (column, at) = at_column job next in omega (arith, at.columns, few)
 
   -- ---- the column is saturated, or its phase stopped
   pub column_done : (job : Job) → IsNextJob saturation (budget - settled_of book.phases) (Some job) → (next : SaturationView) (after : Book) → TakesPhase job saturation.basis book next.basis after →
@@ -114,37 +122,22 @@ module _ (rows : List (List ℤ)) (w : List ℤ) (budget : ℕ) (saturation : Sa
       phases : length after.phases ≡ length book.phases + 1
       phases = ap (λ (b : Book). length b.phases) t.kept ∙ length-push book.phases t.phase
 
-      flag : (c : ℕ) → is_left next.left c ≡ is_left (set saturation.left taken false) c
-      flag c = ap (λ (flags : List Bool). is_left flags c) e
-
-      before_more : (c : ℕ) → c < length after.phases → is_left next.left c ≡ false
-      before_more c l = pick (cases_eq c taken)
-        where
-          pick : (c ≡ taken) ⊎ (c ≡ taken → ⊥) → is_left next.left c ≡ false
-          pick (inl same) = flag c ∙ ap (is_left (set saturation.left taken false)) same ∙ get_or-set_same saturation.left taken false false (left_within saturation.left taken least.left_over)
-          pick (inr other) = flag c ∙ get_or-set_other saturation.left taken c false false other ∙ h.before c (omega (arith, l, phases, other, column_is taken least))
-
-      onwards_more : (c : ℕ) → length after.phases ≤ c → c < length w → is_left next.left c ≡ true
-      onwards_more c k l =
-          flag c ∙ get_or-set_other saturation.left taken c false false (λ (same : c ≡ taken). absurd (omega (arith, k, phases, same, column_is taken least))) ∙ h.onwards c (omega (arith, k, phases)) l
-
-      go : (column : ℕ) × (more : ℕ) × IsAtColumn job column more → IsSaturating rows w budget next after
-      go (column, more, at) = record {
-        count = more;
+      go : (column : ℕ) × IsAtColumn job column → IsSaturating rows w budget next after
+      go (column, at) = record {
         rest = vectors_of next.basis.moves;
-        columns = omega (arith, phases, at.counted, at.columns);
+        columns = omega (arith, phases, at.columns, ap (λ (flags : List Bool). length (columns_left flags)) left);
         sized = ap length e ∙ length-set saturation.left taken false ∙ h.sized;
-        before = before_more;
-        onwards = onwards_more;
         reached =
-            let e : column + 1 ≡ length after.phases = omega (arith, phases, at.counted) in
-            subst (λ c. IsReached rows w budget (vectors_of next.basis.moves) next.basis after (lists_for (length w) (range_with_len c more))) e
+            subst (λ (flags : List Bool). IsReached rows w budget (vectors_of next.basis.moves) next.basis after (lists_for (length w) (columns_left flags))) (sym left)
             (reached_on rows w budget h.rest saturation.basis book (column ∷ others column (length w)) _ at.reached job at.over next.basis after t);
       }
+        where
+          left : next.left ≡ set saturation.left column false
+          left = e ∙ ap (λ c. set saturation.left c false) (least_is_one saturation.left taken column least at.least)
 
   pub column_stopped : (job : Job) → IsNextJob saturation (budget - settled_of book.phases) (Some job) → (after : Book) → StopsIn job book after → Solves (lattice_with rows w) budget (Err Stopped) after
   column_stopped job n after s =
-      let (column, more, at) = at_column job n in
+      let (column, at) = at_column job n in
       stopped_solves rows w budget h.rest saturation.basis book (column ∷ others column (length w)) _ at.reached job at.over after s
 
   -- without memory the book is as before
@@ -157,17 +150,9 @@ module _ (rows : List (List ℤ)) (w : List ℤ) (budget : ℕ) (saturation : Sa
   column_refused job n next after Stopped s = column_stopped job n after s
 
   -- ---- no column is left
-  pub none_counted : NoneLeft saturation.left → length book.phases ≡ length w
-  none_counted none = go (cases_lt (length book.phases) (length w))
-    where
-      go : (length book.phases < length w) ⊎ (length w ≤ length book.phases) → length book.phases ≡ length w
-      go (inl l) = absurd (both_ways (is_left saturation.left (length book.phases)) (none (length book.phases)) (h.onwards (length book.phases) (omega arith) l))
-      go (inr l) = omega (arith, l, h.columns)
-
   reached_all : NoneLeft saturation.left → IsReached rows w budget h.rest saturation.basis book (standard (length w) ∷ [])
   reached_all none =
-      let e : h.count ≡ 0 = omega (arith, h.columns, none_counted none) in
-      subst (λ k. IsReached rows w budget h.rest saturation.basis book (lists_for (length w) (range_with_len (length book.phases) k))) e h.reached
+      subst (λ columns. IsReached rows w budget h.rest saturation.basis book (lists_for (length w) columns)) (none_left_over saturation.left none) h.reached
 
   last_job : (job : Job) → IsJob saturation.basis (standard (length saturation.basis.grading)) (budget - settled_of book.phases) job → IsJob saturation.basis (standard (length w)) (budget - settled_of book.phases) job
   last_job job j = subst (λ n. IsJob saturation.basis (standard n) (budget - settled_of book.phases) job) (ap length h.reached.grading) j
@@ -188,6 +173,5 @@ module _ (rows : List (List ℤ)) (w : List ℤ) (budget : ℕ) (saturation : Sa
   last_refused none job j after Stopped s = last_stopped none job j after s
 
 -- a column less is left
-pub fewer : (w : List ℤ) (rows : List (List ℤ)) (budget : ℕ) (job : Job) (moves : BasisView) (book : Book) (next : SaturationView) (after : Book) → TakesPhase job moves book next.basis after →
-    IsSaturating rows w budget next after → length w - length after.phases < length w - length book.phases
-fewer w rows budget job moves book next after t h = omega (arith, h.columns, ap (λ (b : Book). length b.phases) t.kept, length-push book.phases t.phase)
+pub fewer : (left : List Bool) (after : List Bool) → IsLeastTaken left after → length (columns_left after) < length (columns_left left)
+fewer left after (column, least, e) = omega (arith, column_fewer left column least.left_over, ap (λ (flags : List Bool). length (columns_left flags)) e)

@@ -55,6 +55,7 @@ pub fn solve_alone(
     ensures budget { StopsByBudget budget result book.new }
 {
     let mut saturation = Saturation::start(alloc, lat, grading)?;
+    saturation.free_columns();
     while let Some(job) = saturation.next_job(alloc, budget - book.settled())? {
         saturate_column(alloc, &mut saturation, job, book)?;
     }

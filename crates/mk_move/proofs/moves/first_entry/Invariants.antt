@@ -1,5 +1,5 @@
 use Rattle.std.proofs.Common.{◌≡◌, drop}
-use Rattle.mk_move.specs.Moves.{first_along}
+use Rattle.mk_model.specs.Orders.{first_along}
 use Rattle.mk_move.proofs.moves.first_entry.Given as goal
 
 abbrev pub invariant-loop-column : goal.invariant-loop-column

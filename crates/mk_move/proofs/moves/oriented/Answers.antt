@@ -1,6 +1,6 @@
 use Rattle.std.proofs.Common.{◌≡◌, ap, sym, ◌∙◌, arith, pos, ◌<ℤ◌}
 use Rattle.std.proofs.lemmas.Int.{ints}
-use Rattle.mk_move.specs.Moves.{first_along}
+use Rattle.mk_model.specs.Orders.{first_along}
 use Rattle.mk_move.proofs.Parts.{row_as_it_is, row_turned, zero_row}
 use Rattle.mk_move.proofs.moves.oriented.Goals as goal
 use Rattle.mk_move.proofs.moves.oriented.Goals.{After-first_entry-first}

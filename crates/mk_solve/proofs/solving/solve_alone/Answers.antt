@@ -43,14 +43,11 @@ returns-in_err-saturation c =
 
 pub loop-saturation-init : goal.loop-saturation-init
 loop-saturation-init c =
-    begins (rows_of c.args.lat.now) c.args.grading.now c.args.lat.now.columns c.args.budget c.in_ok-saturation.saturation c.args.book.now c.requires.columns
-    c.in_ok-saturation.ensures.basis c.in_ok-saturation.ensures.left c.in_ok-saturation.ensures.lattice c.requires.book
+    begins (rows_of c.args.lat.now) c.args.grading.now c.args.lat.now.columns c.args.budget c.in_ok-saturation.saturation c.free_columns.new.saturation c.args.book.now c.requires.columns
+    c.in_ok-saturation.ensures.basis c.in_ok-saturation.ensures.left c.in_ok-saturation.ensures.lattice (record { freed = c.free_columns.ensures.left }) c.requires.book
 
 pub loop-saturation-smaller : goal.loop-saturation-smaller
-loop-saturation-smaller c =
-    let at = goal.at.loop-saturation-smaller c in
-    fewer c.args.grading.now (rows_of c.args.lat.now) c.args.budget c.in-Some.job c.loop-saturation.saturation.basis c.loop-saturation.book c.saturate_column.new.saturation c.saturate_column.new.book
-    c.in_ok-saturate_column.ensures.0 (saturated_more at.In_ok-saturate_column (next_job at.In-Some))
+loop-saturation-smaller c = fewer c.loop-saturation.saturation.left c.saturate_column.new.saturation.left c.in_ok-saturate_column.ensures.1
 
 pub loop-saturation-preserved : goal.loop-saturation-preserved
 loop-saturation-preserved c =

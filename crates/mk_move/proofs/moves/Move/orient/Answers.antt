@@ -4,7 +4,8 @@ use Rattle.std.specs.List.{refill}
 use Rattle.std.proofs.lemmas.Int.{to_z-of_z}
 use Rattle.mk_model.specs.Vectors.{negate}
 use Rattle.mk_model.proofs.VectorAlgebra.{length-negate}
-use Rattle.mk_move.specs.Moves.{Weighed, IsRowOriented, first_along}
+use Rattle.mk_model.specs.Orders.{first_along}
+use Rattle.mk_move.specs.Moves.{Weighed, IsRowOriented}
 use Rattle.mk_move.proofs.Entries.{as_entry, entry_width}
 use Rattle.mk_move.proofs.Readings.{less, not_less}
 use Rattle.mk_move.proofs.Parts.{row_turned, IsKept-oriented}

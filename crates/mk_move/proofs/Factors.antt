@@ -1,13 +1,13 @@
 -- Which products are formed where a multiple is taken off: those that fit 128 bits. The others are out of range.
-use Rattle.std.proofs.Common.{◌≡◌, ℕ, ◌+◌, ◌*◌, ◌/◌, ◌<◌, ◌≤◌, ◌^◌, inl, inr, ℤ, pos, negsuc, ◌-ℤ◌, ◌*ℤ◌, unsigned_abs, arith, ap, sym, ◌∙◌, subst}
+use Rattle.std.proofs.Common.{◌≡◌, ◌⊎◌, All, List, length, ℕ, ◌+◌, ◌*◌, ◌/◌, ◌<◌, ◌≤◌, ◌^◌, inl, inr, ℤ, pos, negsuc, ◌-ℤ◌, ◌*ℤ◌, unsigned_abs, arith, ap, sym, ◌∙◌, subst}
 use mir.Syntax.{w128}
 use mir.Val.{SFits, to_z, of_z}
-use Rattle.std.proofs.Math.Nat.{mul-le-mul, le-div_iff_mul-le, div-mul-le_self}
+use Rattle.std.proofs.Math.Nat.{mul-le-mul_left, le-div_iff_mul-le}
 use Rattle.std.proofs.lemmas.Bool.{cases_lt}
 use Rattle.std.proofs.lemmas.Int.{ints, to_z-of_z, unsigned_abs-mul, fits_signed_from_abs}
-use Rattle.mk_model.specs.Vectors.{IsEntry}
+use Rattle.mk_model.specs.Vectors.{entry, IsEntry}
 use Rattle.mk_model.specs.Overflows.{IsBeyond}
-use Rattle.mk_move.specs.Steps.{IsMostFactor}
+use Rattle.mk_move.specs.Steps.{AreFormed}
 use Rattle.mk_move.proofs.Entries.{as_entry, most_entry, abs_bounds, abs_from_bounds, IsEntry-abs, entry_read}
 
 -- a difference from a number that is more than twice out of range
@@ -16,30 +16,32 @@ beyond_far left (pos n) h l = inl (omega (arith, ints, h.1))
 beyond_far left (negsuc n) h l = inr (omega (arith, ints, h.0))
 
 -- with a small number each product of an entry fits
-pub narrow_factor : (times : ℤ) → unsigned_abs times * most_entry ≤ 2 ^ 126 → IsMostFactor times most_entry
-narrow_factor times h = record {
-  fits = h;
-  beyond = λ left right l r more. absurd (omega (arith, IsEntry-abs right r));
+pub all_formed : (times : ℤ) (y : List ℤ) → unsigned_abs times * most_entry ≤ 2 ^ 126 → All IsEntry y → AreFormed y times (length y)
+all_formed times y h range = record {
+  within = omega arith;
+  fits = λ c l. omega (arith, h, mul-le-mul_left (unsigned_abs times) (IsEntry-abs (entry y c) (range c (pos 0) l)));
+  beyond = λ l. absurd (omega arith);
 }
 
--- else the greatest factor is a quotient
-pub wide_factor : (times : ℤ) → 0 < unsigned_abs times → IsMostFactor times (2 * most_entry / unsigned_abs times)
-wide_factor times some = record {
-  fits = omega (arith, within);
-  beyond = λ left right l r more. beyond_far left (times *ℤ right) l (far right more);
-}
+-- up to the quotient of twice the largest entry a product fits
+pub quotient_fits : (times right : ℤ) → 0 < unsigned_abs times → unsigned_abs right ≤ 2 * most_entry / unsigned_abs times → unsigned_abs times * unsigned_abs right ≤ 2 ^ 126
+quotient_fits times right some h = omega (arith, (le-div_iff_mul-le some).0 h)
+
+-- and a greater entry is too far away
+pub quotient_far : (times left right : ℤ) → 0 < unsigned_abs times → IsEntry left → 2 * most_entry / unsigned_abs times < unsigned_abs right → IsBeyond (left -ℤ (times *ℤ right))
+quotient_far times left right some range more = beyond_far left (times *ℤ right) range (far (cases_lt (2 * most_entry) (unsigned_abs right * unsigned_abs times)))
   where
-    size : ℕ
-    size = unsigned_abs times
+    far : (2 * most_entry < unsigned_abs right * unsigned_abs times) ⊎ (unsigned_abs right * unsigned_abs times ≤ 2 * most_entry) → 2 * most_entry < unsigned_abs (times *ℤ right)
+    far (inl l) = omega (arith, l, unsigned_abs-mul times right)
+    far (inr l) = absurd (omega (arith, more, (le-div_iff_mul-le some).1 l))
 
-    within : size * (2 * most_entry / size) ≤ 2 * most_entry
-    within = omega (arith, div-mul-le_self (2 * most_entry) size)
-
-    far : (right : ℤ) → 2 * most_entry / size < unsigned_abs right → 2 * most_entry < unsigned_abs (times *ℤ right)
-    far right more = elim (cases_lt (2 * most_entry) (unsigned_abs right * size)) [
-      | inl l ↦ omega (arith, l, unsigned_abs-mul times right)
-      | inr l ↦ absurd (omega (arith, (le-div_iff_mul-le some).1 l))
-    ]
+pub formed_up_to : (times : ℤ) (y : List ℤ) (n : ℕ) → 0 < unsigned_abs times → n ≤ length y → ((c : ℕ) → c < n → unsigned_abs (entry y c) ≤ 2 * most_entry / unsigned_abs times) →
+    (n < length y → 2 * most_entry / unsigned_abs times < unsigned_abs (entry y n)) → AreFormed y times n
+formed_up_to times y n some within small far = record {
+  within = within;
+  fits = λ c l. quotient_fits times (entry y c) some (small c l);
+  beyond = λ l left range. quotient_far times left (entry y n) some range (far l);
+}
 
 -- a product that is formed, and the difference from it: as the code has them, they fit and are what they say
 pub record IsFormed (left times right : ℤ) : Type 0 where
@@ -47,18 +49,15 @@ pub record IsFormed (left times right : ℤ) : Type 0 where
   pub difference : SFits w128 (as_entry left -ℤ to_z w128 (of_z w128 (as_entry times *ℤ as_entry right)))
   pub value : to_z w128 (of_z w128 (as_entry left -ℤ to_z w128 (of_z w128 (as_entry times *ℤ as_entry right)))) ≡ left -ℤ (times *ℤ right)
 
-pub formed : (left times right : ℤ) (most : ℕ) → IsEntry left → IsEntry times → IsEntry right → IsMostFactor times most → unsigned_abs right ≤ most → IsFormed left times right
-formed left times right most h k l factor within = record {
+pub formed : (left times right : ℤ) → IsEntry left → IsEntry times → IsEntry right → unsigned_abs times * unsigned_abs right ≤ 2 ^ 126 → IsFormed left times right
+formed left times right h k l fits = record {
   product = subst (SFits w128) (sym product_is) product_fits;
   difference = subst (SFits w128) (sym difference_is) difference_fits;
   value = ap (λ u. to_z w128 (of_z w128 u)) difference_is ∙ to_z-of_z w128 (left -ℤ (times *ℤ right)) difference_fits;
 }
   where
     size : unsigned_abs (times *ℤ right) ≤ 2 ^ 126
-    size = omega (arith, unsigned_abs-mul times right, mul-le-mul (same (unsigned_abs times)) within, factor.fits)
-      where
-        same : (n : ℕ) → n ≤ n
-        same n = omega arith
+    size = omega (arith, unsigned_abs-mul times right, fits)
 
     product_is : as_entry times *ℤ as_entry right ≡ times *ℤ right
     product_is = ap (λ u. u *ℤ as_entry right) (entry_read times k) ∙ ap (λ u. times *ℤ u) (entry_read right l)

@@ -47,8 +47,9 @@ pub record GivesEntry (z value : ℤ) : Type 0 where
   pub same : value ≡ z
   pub range : IsEntry value
 
--- Up to this absolute value of a factor its product with the number is formed, and fits 128 bits. A greater factor takes
--- each entry out of range.
-pub record IsMostFactor (times : ℤ) (most : ℕ) : Type 0 where
-  pub fits : unsigned_abs times * most ≤ 2 ^ 126
-  pub beyond : (left right : ℤ) → IsEntry left → IsEntry right → most < unsigned_abs right → IsBeyond (left -ℤ (times *ℤ right))
+-- So many columns at the front have a product with the number that is formed, and fits 128 bits. The entry behind them, if
+-- there is one, takes each entry out of range.
+pub record AreFormed (y : List ℤ) (times : ℤ) (columns : ℕ) : Type 0 where
+  pub within : columns ≤ length y
+  pub fits : (c : ℕ) → c < columns → unsigned_abs times * unsigned_abs (entry y c) ≤ 2 ^ 126
+  pub beyond : columns < length y → (left : ℤ) → IsEntry left → IsBeyond (left -ℤ (times *ℤ entry y columns))

@@ -1,7 +1,7 @@
-ghost use Rattle.std.specs.Prelude.{◌≡◌, ◌≤◌, ◌↔◌, IsTrue, pos, length, All, OnOk, IfErr, MatchResult, MatchOption, ◌-ℤ◌, ◌*ℤ◌};
+ghost use Rattle.std.specs.Prelude.{◌≡◌, ◌≤◌, ◌*◌, ◌^◌, unsigned_abs, ◌↔◌, IsTrue, pos, length, All, OnOk, IfErr, MatchResult, MatchOption, ◌-ℤ◌, ◌*ℤ◌};
 ghost use Rattle.mk_model.specs.Vectors.{IsEntry, weight, zeros};
 ghost use Rattle.mk_model.specs.Overflows.{IsBeyond};
-ghost use Rattle.mk_move.specs.Steps.{TakesOff, IsOverflow, IsStepFault, GivesEntries, GivesEntry, IsMostFactor};
+ghost use Rattle.mk_move.specs.Steps.{TakesOff, IsOverflow, IsStepFault, GivesEntries, GivesEntry, AreFormed};
 
 use crate::grading::Grading;
 use crate::moves::{Entries, Move};
@@ -91,10 +91,10 @@ fn take_off(row: &mut [Entry], times: Entry, right: &[Entry]) -> Result<(), Over
     ensures taken { OnOk result (GivesEntries row.old right.now times row.new) }
     ensures refused { IfErr result (IsOverflow row.old right.now times) }
 {
-    let most = most_factor(times);
-    for column in 0..row.len() {
+    let end = columns_formed(times, right);
+    for column in 0..end {
         let left = row[column];
-        let Some(value) = entry_less(left, times, right[column], most) else {
+        let Some(value) = entry_less(left, times, right[column]) else {
             return Err(OverflowAt {
                 column: column as u32,
                 left,
@@ -104,37 +104,48 @@ fn take_off(row: &mut [Entry], times: Entry, right: &[Entry]) -> Result<(), Over
         };
         row[column] = value;
     }
+    if end < row.len() {
+        return Err(OverflowAt {
+            column: end as u32,
+            left: row[end],
+            times,
+            right: right[end],
+        });
+    }
     Ok(())
 }
 
 /// Below this absolute value the product of a number and each entry fits 128 bits.
 const NARROW: u128 = (1 << 126) / (ENTRY_MAX as u128 + 1);
 
-/// The greatest absolute value of an entry whose product with the number is formed: any, where the number is small, and
-/// else the quotient of twice the largest entry by the number.
-fn most_factor(times: Entry) -> u128
-    requires { IsEntry times }
-    ensures { IsMostFactor times result }
+/// How many columns at the front have a product with the number that is formed: all, where the number is small; else up
+/// to the first entry that is greater in absolute value than the quotient of twice the largest entry by the number.
+fn columns_formed(times: Entry, row: &[Entry]) -> usize
+    requires times { IsEntry times }
+    requires entries { All IsEntry row.now }
+    ensures { AreFormed row.now times result }
 {
     let size = times.unsigned_abs();
     if size < NARROW {
-        return ENTRY_MAX as u128;
+        return row.len();
     }
-    2 * ENTRY_MAX as u128 / size
+    let most = 2 * ENTRY_MAX as u128 / size;
+    for (column, entry) in row.iter().enumerate() {
+        if entry.unsigned_abs() > most {
+            return column;
+        }
+    }
+    row.len()
 }
 
-/// The entry `left - times * right`, and none where it leaves the range. The product is formed where `right` is at most
-/// `most` in absolute value.
-fn entry_less(left: Entry, times: Entry, right: Entry, most: u128) -> Option<Entry>
+/// The entry `left - times * right`, and none where it leaves the range. The product fits 128 bits.
+fn entry_less(left: Entry, times: Entry, right: Entry) -> Option<Entry>
     requires left { IsEntry left }
     requires times { IsEntry times }
     requires right { IsEntry right }
-    requires most { IsMostFactor times most }
+    requires fits { unsigned_abs times * unsigned_abs right ≤ 2 ^ 126 }
     ensures { MatchOption result (IsBeyond (left -ℤ (times *ℤ right))) (GivesEntry (left -ℤ (times *ℤ right))) }
 {
-    if right.unsigned_abs() > most {
-        return None;
-    }
     let value = left - times * right;
     if value < -ENTRY_MAX || value > ENTRY_MAX {
         return None;

@@ -132,7 +132,8 @@ fn has_room_for_the_longest_entries(rt: HostRuntime) -> Result<(), Fail> {
     let mut moves = Vec::new(rt.alloc());
     moves.push(move_of(&rt, &[ENTRY_MAX, ENTRY_MAX, -ENTRY_MAX], &[1, 1, 2])?)?;
     let list = Moves { columns: 3, moves };
-    let text = "1 3\n1208925819614629174706175 1208925819614629174706175 -1208925819614629174706175\n";
+    let text =
+        "1 3\n1208925819614629174706175 1208925819614629174706175 -1208925819614629174706175\n";
     assert_written(&rt, &list, 1_000_000, text, 2)
 }
 

@@ -1,4 +1,4 @@
-use Rattle.std.proofs.Common.{◌≡◌, ◌+◌, ℤ, pos, arith, sym, ap, subst, ◌∙◌, ◌-ℤ◌, ◌*ℤ◌, set}
+use Rattle.std.proofs.Common.{◌≡◌, ◌<◌, ◌≤◌, ◌*◌, ◌^◌, length, unsigned_abs, ◌+◌, ℤ, pos, arith, sym, ap, subst, ◌∙◌, ◌-ℤ◌, ◌*ℤ◌, set}
 use Rattle.mk_model.specs.Vectors.{entry}
 use Rattle.mk_model.specs.Overflows.{IsBeyond}
 use Rattle.mk_move.specs.Steps.{GivesEntry}
@@ -29,7 +29,7 @@ returns-in_default-clause-refused c =
     let n = c.loop-column.column in
     let at = (goal.at.returns-in_default-clause-refused c).In-loop-column in
     record {
-      within = c.loop-column-test.true;
+      within = omega (arith, c.loop-column-test.true, c.columns_formed-end.ensures.within);
       left = ap (λ (a : ℤ). as_entry a) (entry_is at) ∙ entry_read (entry c.args.row.now n) (c.requires.left n (pos 0) (omega arith));
       times = entry_read c.args.times c.requires.times;
       right = entry_read (entry c.args.right.now n) (c.requires.right n (pos 0) (omega arith));
@@ -46,8 +46,35 @@ loop-column-preserved c =
     (subst (λ (z : ℤ). IsTakenOff c.args.row.now c.args.right.now c.args.times (n + 1) (set c.loop-column.row n z)) (sym (entry_read c.in-Some.value given.range))
     (one_taken c.args.row.now c.args.right.now c.args.times n c.loop-column.row c.in-Some.value (omega (arith, (so_far at).columns)) (so_far at) given))
 
+pub entry_less-requires-clause-fits : goal.entry_less-requires-clause-fits
+entry_less-requires-clause-fits c =
+    let n = c.loop-column.column in
+    subst (λ (z : ℤ). unsigned_abs (as_entry c.args.times) * unsigned_abs z ≤ 2 ^ 126)
+    (sym (entry_read (entry c.args.right.now n) (c.requires.right n (pos 0) (omega (arith, c.loop-column-test.true, c.columns_formed-end.ensures.within)))))
+    (c.columns_formed-end.ensures.fits n c.loop-column-test.true)
+
+pub returns-then-end-row-clause-refused : goal.returns-then-end-row-clause-refused
+returns-then-end-row-clause-refused c =
+    let n = c.columns_formed-end.result in
+    let x = c.args.row.now in
+    let y = c.args.right.now in
+    let times = c.args.times in
+    let so_far : IsTakenOff x y times c.loop-column.column c.loop-column.row = subst (λ (z : ℤ). IsTakenOff x y z c.loop-column.column c.loop-column.row) (entry_read times c.requires.times) c.loop-column.invariant in
+    let within : n < length x = omega (arith, c.if-end-row.true, so_far.columns) in
+    let entry_is : entry c.loop-column.row n ≡ entry x n = so_far.left n (omega (arith, c.loop-column.auto.column-end)) in
+    record {
+      within = within;
+      left = ap (λ (a : ℤ). as_entry a) entry_is ∙ entry_read (entry x n) (c.requires.left n (pos 0) within);
+      times = entry_read times c.requires.times;
+      right = entry_read (entry y n) (c.requires.right n (pos 0) (omega (arith, within)));
+      beyond = subst (λ (z : ℤ). IsBeyond (entry x n -ℤ (z *ℤ entry y n))) (entry_read times c.requires.times)
+          (c.columns_formed-end.ensures.beyond (omega (arith, within)) (entry x n) (c.requires.left n (pos 0) within));
+      lesser = λ k l. taken_lesser x y times c.loop-column.column c.loop-column.row so_far k (omega (arith, l, c.loop-column-test.false));
+    }
+
 pub returns-clause-taken : goal.returns-clause-taken
 returns-clause-taken c =
     let n = c.loop-column.column in
     let so_far : IsTakenOff c.args.row.now c.args.right.now c.args.times n c.loop-column.row = subst (λ (z : ℤ). IsTakenOff c.args.row.now c.args.right.now z n c.loop-column.row) (entry_read c.args.times c.requires.times) c.loop-column.invariant in
-    all_taken c.args.row.now c.args.right.now c.args.times n c.loop-column.row (omega (arith, so_far.columns)) (omega (arith, so_far.columns)) so_far
+    let whole : length c.args.row.now ≡ n = omega (arith, so_far.columns, c.loop-column-test.false, c.loop-column.auto.column-end, c.if-end-row.false, c.columns_formed-end.ensures.within) in
+    all_taken c.args.row.now c.args.right.now c.args.times n c.loop-column.row whole (omega (arith, whole)) so_far

@@ -43,7 +43,7 @@ returns-in_err-saturation c =
 
 pub loop-saturation-init : goal.loop-saturation-init
 loop-saturation-init c =
-    begins (rows_of c.args.lat.now) c.args.grading.now c.args.lat.now.columns c.args.budget c.in_ok-saturation.saturation c.free_columns.new.saturation c.args.book.now c.requires.columns
+    begins (rows_of c.args.lat.now) c.args.grading.now c.args.lat.now.columns c.args.budget c.in_ok-saturation.saturation c.free_columns.new.self c.args.book.now c.requires.columns
     c.in_ok-saturation.ensures.basis c.in_ok-saturation.ensures.left c.in_ok-saturation.ensures.lattice (record { freed = c.free_columns.ensures.left }) c.requires.book
 
 pub loop-saturation-smaller : goal.loop-saturation-smaller

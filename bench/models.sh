@@ -1,7 +1,7 @@
 #!/usr/bin/env bash
 # Measures how long whole independence models take, given as files that are made here: 3 by 3 by 3 and 3 by 3 by 4 (no
-# three-way interaction), 6 by 6 and 8 by 8. Two lines for each: the model, the phases, the pairs, the moves of the reduced
-# basis and of the answer; then the seconds of each part, which the program SOLVE_BENCH goes through one after another and
+# three-way interaction), 6 by 6 and 8 by 8. Two lines for each: the model, the phases, the pairs of each kind, the moves of the
+# reduced basis and of the answer; then the seconds of each part, which the program SOLVE_BENCH goes through one after another and
 # says a line at the end of each, and those of the program `markov`, which does all of it and writes the answer. Reading the
 # file is in the first part's time. A run of `markov` settles at most 20,000,000 pairs and SOLVE_BENCH more, so that a large
 # model may have its parts while `markov` ends with status 5.
@@ -63,14 +63,15 @@ for name in $models; do
     [ $status -eq 0 ] || { echo "$name: status $status of markov" >&2; failed=1; }
     awk -v name="$name" -v whole=$time -v status=$status -v answer="$(head -qn 1 P.mar 2>/dev/null)" '
         { seconds[$2] = $1 / 1e6 }
-        $2 == "saturation" { phases = $3 + 1; pairs = $5 }
-        $2 == "completion" { pairs += $3 }
+        $2 == "saturation" { phases = $3 + 1 }
+        $2 == "saturation" || $2 == "completion" { coprime += $6; chain += $8; zero += $10; place += $12 }
         $2 == "tails" { reduced = $3 }
         $2 == "minimising" { moves = $3 }
         END {
             split(answer, word, " ")
             if (status == 0 && word[1] != moves) { print name ": an answer of " word[1] " moves for " moves; exit 1 }
-            printf "%-6s phases %d, pairs %d, moves of the reduced basis %d, of the answer %d\n", name, phases, pairs, reduced, moves
+            printf "%-6s phases %d, pairs %d (coprime %d, chain %d, zero %d, place %d), moves of the reduced basis %d, of the answer %d\n",
+                name, phases, coprime + chain + zero + place, coprime, chain, zero, place, reduced, moves
             printf "       saturation %.3f s, completion %.3f s, tails %.3f s, minimising %.3f s, markov %.3f s%s\n",
                 seconds["saturation"], seconds["completion"], seconds["tails"], seconds["minimising"], whole / 1e6,
                 status ? " until it stopped" : ""

@@ -6,9 +6,10 @@ as docs/DEFINITIONS.md says. Where several steps are free it takes what the prog
 place whose lead divides. Without BOUND nothing leaves the range.
 
 Usage: bench/plain.py [--skips] [--journal] PROJECT [BOUND]
-With --skips a pair of disjoint leads isn't reduced, nor one that a third move settles. With --journal it prints how each pair of
-each phase was settled, and how many there are, in place of the moves. Else it prints the essential moves as PROJECT.mar has them; or where an entry leaves the range: the place, the pair or index, by which move,
-and the line that the program says. The grading is that of PROJECT.grade, or all ones.
+With --skips a pair of disjoint leads isn't reduced, nor one that a third move settles, and free columns have no phase, as in the
+program. With --journal it prints how each pair of each phase was settled, and how many there are of each kind, in place of the moves.
+Else it prints the essential moves as PROJECT.mar has them; or where an entry leaves the range: the place, the pair or index, by which
+move, and the line that the program says. The grading is that of PROJECT.grade, or all ones.
 """
 
 import sys
@@ -40,9 +41,19 @@ def oriented(priority, v):
             return v if v[column] < 0 else tuple(-a for a in v)
 
 
-def lists(columns):
+def lists(columns, free=()):
     standard = list(range(columns - 1, -1, -1))
-    return [[c] + [d for d in standard if d != c] for c in range(columns)] + [standard]
+    return [[c] + [d for d in standard if d != c] for c in range(columns) if c not in free] + [standard]
+
+
+def free_columns(rows, columns):
+    """Those that leave: each row as the standard list orients it, then its negative, where its negative support has not left."""
+    standard, free = lists(columns)[-1], set()
+    for row in rows:
+        for v in (oriented(standard, row), tuple(-a for a in oriented(standard, row))):
+            if not any(a < 0 and c in free for c, a in enumerate(v)):
+                free |= {c for c, a in enumerate(v) if a > 0}
+    return free
 
 
 def disjoint(a, b):
@@ -141,7 +152,8 @@ class Run:
 
     def solve(self, rows, grading):
         moves = [r for r in rows if any(r)]
-        for phase, priority in enumerate(lists(len(grading))):
+        free = free_columns(moves, len(grading)) if self.skips else ()
+        for phase, priority in enumerate(lists(len(grading), free)):
             self.place = f"phase {phase}"
             moves = self.complete(priority, [oriented(priority, m) for m in moves])
         order = lambda m: (weight(grading, positive(m)), *([-a for a in reversed(p)] for p in (positive(m), negative(m))))
@@ -178,7 +190,9 @@ def main():
     if "--journal" in options:
         for phase, journal in enumerate(run.journals):
             print(f"phase {phase}, {len(journal)} pairs:", *(f"{pair} {how};" for pair, how in journal))
-        print("pairs in all:", sum(map(len, run.journals)))
+        kinds = [how.split()[0] for journal in run.journals for _, how in journal]
+        counts = (f"{kind.lower()} {kinds.count(kind)}" for kind in ("Coprime", "Chain", "Zero", "Place"))
+        print("pairs in all:", len(kinds), *counts)
         return
     print(len(moves), columns)
     for m in moves:

@@ -2,8 +2,6 @@
 use Rattle.std.proofs.Common.{◌≡◌, ◌≢◌, ◌⊎◌, inl, inr, ℕ, ◌+◌, ◌/◌, ◌<◌, ◌≤◌, max, List, length, arith, sym, ap, ◌∙◌, subst, ℤ, pos, ◌≤ℤ◌, ◌<ℤ◌}
 use Rattle.std.specs.Int.{int_max, bit_at}
 use Rattle.std.specs.Int.RustNames.{bit_or}
-use mir.Syntax.{w64}
-use mir.Val.{to_z, of_z}
 use Rattle.std.proofs.lemmas.Int.{ints, clamps, by_lt_z}
 use Rattle.std.proofs.lemmas.Bool.{cases_lt, cases_eq}
 use Rattle.std.proofs.lemmas.Nat.Bits.{bit_at_or, bit_at-lt}
@@ -16,7 +14,7 @@ use Rattle.mk_move.specs.declared.side.Side.TheVariants.{Plus}
 use Rattle.mk_move.specs.Chains.{lcm_on}
 use Rattle.mk_move.specs.Masks.{block_width, block_of, HasPositive, IsMask}
 use Rattle.mk_move.proofs.Divisions.{part_of_past}
-use Rattle.mk_move.proofs.Readings.{entry_read}
+use Rattle.mk_move.proofs.Entries.{as_entry, entry_read}
 
 -- ---- column by column
 both_clamped : (a b : ℤ) → int_max (int_max a (pos 0)) (int_max b (pos 0)) ≡ lcm_on a b
@@ -64,9 +62,9 @@ divides_lcm_not lead a b n h d =
 lcm_on_range : (a b : ℤ) → IsEntry a → IsEntry b → IsEntry (lcm_on a b)
 lcm_on_range a b h k = (omega (arith, ints, clamps, h.0, k.0), omega (arith, ints, clamps, h.1, k.1))
 
-pub lcm_read : (a b r : ℤ) → IsEntry a → IsEntry b → r ≡ lcm_on (to_z w64 (of_z w64 a)) (to_z w64 (of_z w64 b)) → to_z w64 (of_z w64 r) ≡ lcm_on a b
+pub lcm_read : (a b r : ℤ) → IsEntry a → IsEntry b → r ≡ lcm_on (as_entry a) (as_entry b) → as_entry r ≡ lcm_on a b
 lcm_read a b r h k e =
-    ap (λ z. to_z w64 (of_z w64 z)) (e ∙ ap (λ z. lcm_on z (to_z w64 (of_z w64 b))) (entry_read a h) ∙ ap (lcm_on a) (entry_read b k))
+    ap as_entry (e ∙ ap (λ z. lcm_on z (as_entry b)) (entry_read a h) ∙ ap (lcm_on a) (entry_read b k))
     ∙ entry_read (lcm_on a b) (lcm_on_range a b h k)
 
 -- ---- by the masks

@@ -7,6 +7,7 @@ ghost use Rattle.mk_move.specs.MoveLists.{vectors_of};
 ghost use Rattle.mk_move.specs.Sides.{part_of, entry_on};
 ghost use Rattle.mk_saturate.specs.Freed.{other_side, turned_to, freed_on};
 
+use mk_model::Entry;
 use mk_move::{Basis, Move, Side};
 
 /// Takes the columns that the moves free, one move after another, out of those that are left, and answers how many.
@@ -110,7 +111,7 @@ fn part_has(found: &Move, side: Side, column: u32) -> bool
 }
 
 /// Has the part of a vector on a side an entry here, where this is the entry of the vector?
-fn is_on(side: Side, entry: i128) -> bool
+fn is_on(side: Side, entry: Entry) -> bool
     ensures { result ≡ not (int_eq (entry_on side entry) (pos 0)) }
 {
     match side {

@@ -1,12 +1,12 @@
 //! Solves the lattice in `P.lat`, for the grading of all ones, in the parts of `solve_alone`, and says a line as each part ends:
-//! what was settled in it and how many moves it gives. `bench/models.sh` times the parts by these lines.
+//! what was settled in it, by the kinds of pairs, and how many moves it gives. `bench/models.sh` times the parts by these lines.
 #![tactic(auto)]
 
 ghost use Rattle.std.specs.Prelude.{◌≡◌, All, IfSome, length, pos};
 ghost use Rattle.mk_model.specs.Tables.{rows_of};
 ghost use Rattle.mk_model.specs.Vectors.{weight};
 
-use mk_core::{SaturatedBasis, complete_alone};
+use mk_core::{Journal, Kind, SaturatedBasis, complete_alone};
 use mk_files::{Bounds, Table, read_table};
 use mk_inter::reduce_tails;
 use mk_minimise::minimise;
@@ -15,7 +15,7 @@ use mk_move::{Grading, MoveList, Priority};
 use mk_saturate::{Saturation, start_basis};
 use std::alloc::Global;
 use std::process::ExitCode;
-use std::{fs, io};
+use std::{fmt, fs, io};
 
 const LIMITS: Bounds = Bounds {
     rows: 4096,
@@ -67,46 +67,93 @@ fn all_ones(alloc: Global, lat: &Table) -> Option<Grading>
     }
 }
 
-/// The saturated basis, once each column's phase and the last completion are ended, and none where one stops.
+/// How many pairs were settled in each way.
+#[derive(Clone, Copy)]
+struct Kinds {
+    coprime: u64,
+    chain: u64,
+    zero: u64,
+    place: u64,
+}
+
+impl Kinds {
+    /// No pair.
+    fn none() -> Kinds {
+        Kinds {
+            coprime: 0,
+            chain: 0,
+            zero: 0,
+            place: 0,
+        }
+    }
+
+    /// Counts the entries of a journal too.
+    fn count(&mut self, journal: &Journal) {
+        for n in 0..journal.len() {
+            let count = match journal.entry_at(n).kind {
+                Kind::Coprime => &mut self.coprime,
+                Kind::Chain => &mut self.chain,
+                Kind::Zero => &mut self.zero,
+                Kind::Place => &mut self.place,
+            };
+            *count = count.saturating_add(1);
+        }
+    }
+}
+
+impl fmt::Display for Kinds {
+    fn fmt<W: fmt::Write>(&self, f: &mut fmt::Formatter<W>) -> fmt::Result {
+        write!(
+            f,
+            "coprime {} chain {} zero {} place {}",
+            self.coprime, self.chain, self.zero, self.place
+        )
+    }
+}
+
+/// The saturated basis, once the phase of each column that isn't free and the last completion are ended, and none where one stops.
 fn saturate(
     rt: &HostRuntime,
     mut saturation: Saturation,
     columns: u32,
 ) -> io::Result<Option<SaturatedBasis>> {
-    let mut pairs: u64 = 0;
-    for _ in 0..columns {
-        let Some(settled) = saturate_next(rt.alloc(), &mut saturation) else {
+    let freed = saturation.free_columns();
+    let phases = columns.saturating_sub(freed);
+    let mut kinds = Kinds::none();
+    for _ in 0..phases {
+        if !saturate_next(rt.alloc(), &mut saturation, &mut kinds) {
             return Ok(None);
-        };
-        pairs = pairs.saturating_add(settled);
+        }
     }
-    println!(rt; "saturation {columns} phases {pairs} pairs")?;
+    println!(rt; "saturation {phases} phases {kinds}")?;
 
-    let Some((saturated, settled)) = complete_last(rt.alloc(), &saturation) else {
+    let mut kinds = Kinds::none();
+    let Some(saturated) = complete_last(rt.alloc(), &saturation, &mut kinds) else {
         return Ok(None);
     };
     let moves = saturated.basis().len();
-    println!(rt; "completion {settled} pairs {moves} moves")?;
+    println!(rt; "completion {moves} moves {kinds}")?;
     Ok(Some(saturated))
 }
 
-/// Saturates the least column that is left, and tells how many pairs its phase settled.
-fn saturate_next(alloc: Global, saturation: &mut Saturation) -> Option<u64> {
+/// Saturates the least column that is left, and counts the pairs of its phase. False where it stops.
+fn saturate_next(alloc: Global, saturation: &mut Saturation, kinds: &mut Kinds) -> bool {
     let Ok(Some(job)) = saturation.next_job(alloc, BUDGET) else {
-        return None;
+        return false;
     };
     let Ok(completed) = complete_alone(alloc, job) else {
-        return None;
+        return false;
     };
-    let settled = completed.phase().journal.len();
-    match saturation.accept(alloc, &completed) {
-        Ok(()) => Some(settled),
-        Err(_) => None,
-    }
+    kinds.count(&completed.phase().journal);
+    saturation.accept(alloc, &completed).is_ok()
 }
 
-/// The saturated basis that the last completion gives, where no column is left, and how many pairs it settled.
-fn complete_last(alloc: Global, saturation: &Saturation) -> Option<(SaturatedBasis, u64)> {
+/// The saturated basis that the last completion gives, where no column is left; it counts the pairs.
+fn complete_last(
+    alloc: Global,
+    saturation: &Saturation,
+    kinds: &mut Kinds,
+) -> Option<SaturatedBasis> {
     let Ok(None) = saturation.next_job(alloc, BUDGET) else {
         return None;
     };
@@ -116,11 +163,8 @@ fn complete_last(alloc: Global, saturation: &Saturation) -> Option<(SaturatedBas
     let Ok(completed) = complete_alone(alloc, job) else {
         return None;
     };
-    let settled = completed.phase().journal.len();
-    match saturation.finish(alloc, &completed) {
-        Ok(saturated) => Some((saturated, settled)),
-        Err(_) => None,
-    }
+    kinds.count(&completed.phase().journal);
+    saturation.finish(alloc, &completed).ok()
 }
 
 /// The reduced basis and its essential moves, each with a line.

@@ -5,8 +5,9 @@ It completes along the list of each column and then the standard list, reduces t
 as docs/DEFINITIONS.md says. Where several steps are free it takes what the program takes: the positive part first, and the first
 place whose lead divides. Without BOUND nothing leaves the range.
 
-Usage: bench/plain.py [--skips] [--journal] PROJECT [BOUND]
-With --skips a pair of disjoint leads isn't reduced, nor one that a third move settles. With --journal it prints how each pair of
+Usage: bench/plain.py [--skips] [--free] [--journal] PROJECT [BOUND]
+With --skips a pair of disjoint leads isn't reduced, nor one that a third move settles. With --free no list is completed for a
+column that a row shows to be saturated once the columns of its negative part are. With --journal it prints how each pair of
 each phase was settled, and how many there are, in place of the moves. Else it prints the essential moves as PROJECT.mar has them; or where an entry leaves the range: the place, the pair or index, by which move,
 and the line that the program says. The grading is that of PROJECT.grade, or all ones.
 """
@@ -40,9 +41,21 @@ def oriented(priority, v):
             return v if v[column] < 0 else tuple(-a for a in v)
 
 
-def lists(columns):
+def lists(columns, left=None):
+    """For each column that is left its list, and then the standard list."""
     standard = list(range(columns - 1, -1, -1))
-    return [[c] + [d for d in standard if d != c] for c in range(columns)] + [standard]
+    return [[c] + [d for d in standard if d != c] for c in (range(columns) if left is None else left)] + [standard]
+
+
+def left_columns(rows, columns):
+    """The columns that no row frees: each row is tried as the standard list orients it, and then its negative."""
+    left = set(range(columns))
+    for row in rows:
+        turned = oriented(lists(columns)[-1], row)
+        for v in (turned, tuple(-a for a in turned)):
+            if all(c in left for c in range(columns) if v[c] < 0):
+                left -= {c for c in range(columns) if v[c] > 0}
+    return sorted(left)
 
 
 def disjoint(a, b):
@@ -58,8 +71,8 @@ def chain(leads, settled, i, j):
 
 
 class Run:
-    def __init__(self, bound, skips=False):
-        self.bound, self.skips, self.place, self.journals = bound, skips, None, []
+    def __init__(self, bound, skips=False, free=False):
+        self.bound, self.skips, self.free, self.place, self.journals = bound, skips, free, None, []
 
     def less(self, u, times, v, pair, by):
         for column, (a, b) in enumerate(zip(u, v)):
@@ -141,7 +154,8 @@ class Run:
 
     def solve(self, rows, grading):
         moves = [r for r in rows if any(r)]
-        for phase, priority in enumerate(lists(len(grading))):
+        left = left_columns(moves, len(grading)) if self.free else None
+        for phase, priority in enumerate(lists(len(grading), left)):
             self.place = f"phase {phase}"
             moves = self.complete(priority, [oriented(priority, m) for m in moves])
         order = lambda m: (weight(grading, positive(m)), *([-a for a in reversed(p)] for p in (positive(m), negative(m))))
@@ -162,14 +176,14 @@ def table(name):
 
 
 def main():
-    options = [word for word in sys.argv[1:] if word in ("--skips", "--journal")]
+    options = [word for word in sys.argv[1:] if word in ("--skips", "--free", "--journal")]
     project, *bound = [word for word in sys.argv[1:] if word not in options]
     columns, rows = table(project + ".lat")
     try:
         grading = table(project + ".grade")[1][0]
     except FileNotFoundError:
         grading = (1,) * columns
-    run = Run(int(bound[0]) if bound else None, "--skips" in options)
+    run = Run(int(bound[0]) if bound else None, "--skips" in options, "--free" in options)
     try:
         moves = run.solve(rows, grading)
     except Overflow as overflow:

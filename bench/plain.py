@@ -5,11 +5,11 @@ It completes along the list of each column and then the standard list, reduces t
 as docs/DEFINITIONS.md says. Where several steps are free it takes what the program takes: the positive part first, and the first
 place whose lead divides. Without BOUND nothing leaves the range.
 
-Usage: bench/plain.py [--skips] [--journal] PROJECT [BOUND]
-With --skips a pair of disjoint leads isn't reduced, nor one that a third move settles, and free columns have no phase, as in the
-program. With --journal it prints how each pair of each phase was settled, and how many there are of each kind, in place of the moves.
-Else it prints the essential moves as PROJECT.mar has them; or where an entry leaves the range: the place, the pair or index, by which
-move, and the line that the program says. The grading is that of PROJECT.grade, or all ones.
+Usage: bench/plain.py [--skips] [--free] [--journal] PROJECT [BOUND]
+With --skips a pair of disjoint leads isn't reduced, nor one that a third move settles. With --free no list is completed for a
+column that a row shows to be saturated once the columns of its negative part are. With --journal it prints how each pair of
+each phase was settled, and how many there are, in place of the moves. Else it prints the essential moves as PROJECT.mar has them; or where an entry leaves the range: the place, the pair or index, by which move,
+and the line that the program says. The grading is that of PROJECT.grade, or all ones.
 """
 
 import sys
@@ -41,19 +41,21 @@ def oriented(priority, v):
             return v if v[column] < 0 else tuple(-a for a in v)
 
 
-def lists(columns, free=()):
+def lists(columns, left=None):
+    """For each column that is left its list, and then the standard list."""
     standard = list(range(columns - 1, -1, -1))
-    return [[c] + [d for d in standard if d != c] for c in range(columns) if c not in free] + [standard]
+    return [[c] + [d for d in standard if d != c] for c in (range(columns) if left is None else left)] + [standard]
 
 
-def free_columns(rows, columns):
-    """Those that leave: each row as the standard list orients it, then its negative, where its negative support has not left."""
-    standard, free = lists(columns)[-1], set()
+def left_columns(rows, columns):
+    """The columns that no row frees: each row is tried as the standard list orients it, and then its negative."""
+    left = set(range(columns))
     for row in rows:
-        for v in (oriented(standard, row), tuple(-a for a in oriented(standard, row))):
-            if not any(a < 0 and c in free for c, a in enumerate(v)):
-                free |= {c for c, a in enumerate(v) if a > 0}
-    return free
+        turned = oriented(lists(columns)[-1], row)
+        for v in (turned, tuple(-a for a in turned)):
+            if all(c in left for c in range(columns) if v[c] < 0):
+                left -= {c for c in range(columns) if v[c] > 0}
+    return sorted(left)
 
 
 def disjoint(a, b):
@@ -69,8 +71,8 @@ def chain(leads, settled, i, j):
 
 
 class Run:
-    def __init__(self, bound, skips=False):
-        self.bound, self.skips, self.place, self.journals = bound, skips, None, []
+    def __init__(self, bound, skips=False, free=False):
+        self.bound, self.skips, self.free, self.place, self.journals = bound, skips, free, None, []
 
     def less(self, u, times, v, pair, by):
         for column, (a, b) in enumerate(zip(u, v)):
@@ -152,8 +154,8 @@ class Run:
 
     def solve(self, rows, grading):
         moves = [r for r in rows if any(r)]
-        free = free_columns(moves, len(grading)) if self.skips else ()
-        for phase, priority in enumerate(lists(len(grading), free)):
+        left = left_columns(moves, len(grading)) if self.free else None
+        for phase, priority in enumerate(lists(len(grading), left)):
             self.place = f"phase {phase}"
             moves = self.complete(priority, [oriented(priority, m) for m in moves])
         order = lambda m: (weight(grading, positive(m)), *([-a for a in reversed(p)] for p in (positive(m), negative(m))))
@@ -174,14 +176,14 @@ def table(name):
 
 
 def main():
-    options = [word for word in sys.argv[1:] if word in ("--skips", "--journal")]
+    options = [word for word in sys.argv[1:] if word in ("--skips", "--free", "--journal")]
     project, *bound = [word for word in sys.argv[1:] if word not in options]
     columns, rows = table(project + ".lat")
     try:
         grading = table(project + ".grade")[1][0]
     except FileNotFoundError:
         grading = (1,) * columns
-    run = Run(int(bound[0]) if bound else None, "--skips" in options)
+    run = Run(int(bound[0]) if bound else None, "--skips" in options, "--free" in options)
     try:
         moves = run.solve(rows, grading)
     except Overflow as overflow:
@@ -190,9 +192,7 @@ def main():
     if "--journal" in options:
         for phase, journal in enumerate(run.journals):
             print(f"phase {phase}, {len(journal)} pairs:", *(f"{pair} {how};" for pair, how in journal))
-        kinds = [how.split()[0] for journal in run.journals for _, how in journal]
-        counts = (f"{kind.lower()} {kinds.count(kind)}" for kind in ("Coprime", "Chain", "Zero", "Place"))
-        print("pairs in all:", len(kinds), *counts)
+        print("pairs in all:", sum(map(len, run.journals)))
         return
     print(len(moves), columns)
     for m in moves:

@@ -123,7 +123,7 @@ ends 'no P.lat' 2 'markov: P.lat: not there' P
 given P.mar '7 7\nan older answer\n'
 ends 'no P.lat under an older answer' 2 'markov: P.lat: not there' P
 given P.lat '2 4\n1 604462909807314587353089 0 -604462909807314587353090\n1 -604462909807314587353089 604462909807314587353089 -1\n'
-ends 'an entry leaves its range' 4 'markov: overflow in column 2: 604462909807314587353089 - (1) * (-604462909807314587353089)' P
+ends 'an entry leaves its range' 4 'markov: overflow in column 2: -604462909807314587353089 - (1) * (604462909807314587353089)' P
 fresh
 given -P.lat '1 2\n2 -2\n'
 made -P.mar '1 2\n2 -2\n'

@@ -250,7 +250,7 @@ fn lattices_are_refused_with_their_line(rt: HostRuntime) -> Result<(), Fail> {
 }
 
 // Where an entry leaves its range, by the book and the line: in the difference of a pair, in a step of its reduction, in one whose
-// product is far out of range, and in one on the tail of a move.
+// product is far out of range, in one on the tail of a move, and at a weight.
 #[test]
 fn entries_leave_their_range(rt: HostRuntime) -> Result<(), Fail> {
     let rows = [
@@ -269,11 +269,18 @@ fn entries_leave_their_range(rt: HostRuntime) -> Result<(), Fail> {
             "markov: overflow in column 3: 1208925819614629174706174 - (1) * (-604462909807314587353087)\n",
         ),
         (
-            "2 4\n-967140655691703339764940 725355491768777504823705 725355491768777504823705 725355491768777504823705\n0 725355491768777504823705 0 -1208925819614629174706175\n",
-            ("P.grade", "1 4\n9 5 4 3\n"),
+            "2 4\n0 -1 0 2\n0 1208925819614629174706175 -1208925819614629174706175 0\n",
+            ("P.grade", "1 4\n2 2 2 1\n"),
+            OverflowPlace::Pair { phase: 0 },
+            Some(0),
+            "markov: overflow in column 4: 2 - (1208925819614629174706174) * (-2)\n",
+        ),
+        (
+            "2 4\n-604462909807314587353086 302231454903657293676543 0 1208925819614629174706172\n0 302231454903657293676543 -302231454903657293676543 -302231454903657293676543\n",
+            ("P.grade", "1 4\n8 8 6 2\n"),
             OverflowPlace::Tail { index: 0 },
             Some(1),
-            "markov: overflow in column 4: -725355491768777504823705 - (-1) * (-1208925819614629174706175)\n",
+            "markov: overflow in column 4: -1208925819614629174706172 - (-1) * (-302231454903657293676543)\n",
         ),
         (
             "3 4\n-226673591177742970257405 0 226673591177742970257405 -226673591177742970257405\n302231454903657293676540 151115727451828646838270 151115727451828646838270 -226673591177742970257405\n-151115727451828646838270 302231454903657293676540 -151115727451828646838270 151115727451828646838270\n",

@@ -45,7 +45,11 @@ fn assert_left(rt: &impl Abort, saturation: &Saturation, left: [bool; 4])
     requires { length saturation.now.left ≡ 4 }
 {
     for column in 0..4u32 {
-        assert_eq!(rt; saturation.is_left(column), left[column as usize], "column {column}");
+        assert_eq!(rt;
+            saturation.is_left(column),
+            left[column as usize],
+            "column {column}"
+        );
     }
 }
 

@@ -14,5 +14,5 @@ invariant_of-self c =
     let items = c.self.inside.left.items in
     let freed = c.free_by_moves.ensures.left ∙ ap (freed_by_rows p moves) c.deref_mut.ensures.value in
     let written = written_whole items c.free_by_moves.new.left c.self.inside.left.len (sym c.deref_mut.ensures.len ∙ ap length c.deref_mut.ensures.value)
-        (ap length freed ∙ length-freed_by_rows p moves items) in
+    (ap length freed ∙ length-freed_by_rows p moves items) in
     freed_saturation (record { basis = basis; left = items }) c.self.invariant _ (written ∙ freed)

@@ -31,7 +31,7 @@ const FIRST_ZERO: JournalEntry = JournalEntry {
     kind: Kind::Zero,
 };
 
-const LAST_COPRIME: JournalEntry = JournalEntry {
+pub(crate) const LAST_COPRIME: JournalEntry = JournalEntry {
     i: 1,
     j: 2,
     third: 0,
@@ -104,7 +104,7 @@ fn one_worker_stops_at_a_full_basis(rt: HostRuntime) -> Result<(), Fail> {
 }
 
 // A ledger of the twisted cubic for two workers, with so many claims and moves at most.
-fn two_workers(
+pub(crate) fn two_workers(
     rt: &(impl Abort + AllocGlobal),
     budget: u64,
     basis_limit: u32,
@@ -127,7 +127,7 @@ fn one_worker_finishes(rt: HostRuntime) -> Result<(), Fail> {
 }
 
 // What a worker that has no claim is answered when it asks for a pair.
-fn answer_for(rt: &impl Abort, ledger: &mut Ledger, worker: u32) -> Claim {
+pub(crate) fn answer_for(rt: &impl Abort, ledger: &mut Ledger, worker: u32) -> Claim {
     assert!(rt; worker < ledger.workers());
     assert!(rt; ledger.claim_of(worker).is_none());
     ledger.claim(worker)
@@ -180,7 +180,7 @@ fn remainder_of(
 }
 
 // The first worker, who has the pair of the two moves as its claim, settles it by what is left of its difference.
-fn place_first(
+pub(crate) fn place_first(
     rt: &(impl Abort + AllocGlobal),
     ledger: &mut Ledger,
 ) -> Result<Result<u32, PlaceFault>, Fail> {

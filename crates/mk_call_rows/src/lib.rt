@@ -9,3 +9,5 @@ mod completions;
 mod lower;
 #[cfg(test)]
 mod saturations;
+#[cfg(test)]
+mod skips;

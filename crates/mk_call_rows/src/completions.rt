@@ -13,12 +13,12 @@ use std::alloc::AllocGlobal;
 use std::process::Abort;
 use std::test::Fail;
 
-const MOVES: [&str; 2] = [
+pub(crate) const MOVES: [&str; 2] = [
     "2 4\n1 -2 1 0\n0 -1 2 -1\n",
     "3 4\n1 -2 1 0\n0 -1 2 -1\n1 -1 -1 1\n",
 ];
 
-const ENTRIES: [JournalEntry; 3] = [
+pub(crate) const ENTRIES: [JournalEntry; 3] = [
     JournalEntry {
         i: 0,
         j: 1,
@@ -94,7 +94,7 @@ fn completions_end(rt: HostRuntime) -> Result<(), Fail> {
 }
 
 // What a worker that has no claim is answered when it asks for a pair.
-fn answer_for(rt: &impl Abort, ledger: &mut Ledger, worker: u32) -> Claim {
+pub(crate) fn answer_for(rt: &impl Abort, ledger: &mut Ledger, worker: u32) -> Claim {
     assert!(rt; worker < ledger.workers());
     assert!(rt; ledger.claim_of(worker).is_none());
     ledger.claim(worker)
@@ -121,7 +121,7 @@ fn remainder_of(
 }
 
 // The first of two workers, who has the pair of the two moves as its claim, settles it by what is left of its difference.
-fn place_first(
+pub(crate) fn place_first(
     rt: &(impl Abort + AllocGlobal),
     ledger: &mut Ledger,
 ) -> Result<Result<u32, PlaceFault>, Fail> {

@@ -8,4 +8,6 @@ mod pairs;
 #[cfg(test)]
 mod shown;
 #[cfg(test)]
+mod skips;
+#[cfg(test)]
 mod solutions;

@@ -1,0 +1,95 @@
+use crate::completions::{ENTRIES, MOVES, answer_for, place_first};
+use crate::shown::{assert_moves, start_of};
+use mk_criteria::{chain_candidates, find_chain};
+use mk_ledger::{ChainFault, Claim, Ledger};
+use mk_move::{chain_divides, coprime_leads};
+use std::alloc::AllocGlobal;
+use std::process::Abort;
+use std::test::Fail;
+
+const OVERLAPPING: &str = "3 4\n1 1 -1 -1\n1 -1 1 -1\n-1 1 1 -1\n";
+
+// A ledger of three moves whose leads overlap, for three workers.
+fn three_workers(rt: &(impl Abort + AllocGlobal)) -> Result<Ledger, Fail> {
+    let start = start_of(rt, OVERLAPPING, None)?;
+    assert_moves(rt, &start, OVERLAPPING)?;
+    assert!(rt; start.len() <= 65_536);
+    Ok(Ledger::new(rt.alloc(), start, 100, 65_536, 3)?)
+}
+
+// The worker, whose claim the third move may settle, settles it by that move.
+fn chain_by(rt: &impl Abort, ledger: &mut Ledger, worker: u32, k: u32) -> Result<(), ChainFault> {
+    assert!(rt; worker < ledger.workers());
+    let Some((i, j)) = ledger.claim_of(worker) else {
+        panic!(rt; "no claim");
+    };
+    let count = ledger.basis().len();
+    assert!(rt; i < count && j < count && k < count);
+    assert!(rt; k != i && k != j);
+    assert!(rt; chain_divides(ledger.basis(), i, j, k));
+    ledger.settle_chain(worker, k)
+}
+
+#[test]
+fn a_pair_that_is_claimed_settles_no_other(rt: HostRuntime) -> Result<(), Fail> {
+    let mut ledger = three_workers(&rt)?;
+    let first = Claim::Claimed { i: 0, j: 1 };
+    assert_eq!(rt; answer_for(&rt, &mut ledger, 0), first);
+    let second = Claim::Claimed { i: 0, j: 2 };
+    assert_eq!(rt; answer_for(&rt, &mut ledger, 1), second);
+    let third = Claim::Claimed { i: 1, j: 2 };
+    assert_eq!(rt; answer_for(&rt, &mut ledger, 2), third);
+    let unsettled = ChainFault::Unsettled { i: 0, j: 2 };
+    assert_eq!(rt; chain_by(&rt, &mut ledger, 0, 2), Err(unsettled));
+    Ok(())
+}
+
+#[test]
+fn third_moves_are_found(rt: HostRuntime) -> Result<(), Fail> {
+    let ledger = three_workers(&rt)?;
+    let basis = ledger.basis();
+    assert_eq!(rt; basis.len(), 3);
+    assert_eq!(rt; find_chain(basis, &ledger, 0, 1), None);
+    assert_eq!(rt; chain_candidates(basis, 0, 1, 0), Some(2));
+    assert_eq!(rt; chain_candidates(basis, 1, 2, 0), Some(0));
+    assert_eq!(rt; chain_candidates(basis, 1, 2, 1), None);
+    Ok(())
+}
+
+// The worker, whose claim has leads without a common column, settles it by that.
+fn settle_apart(rt: &impl Abort, ledger: &mut Ledger, worker: u32) -> Result<(), Fail> {
+    assert!(rt; worker < ledger.workers());
+    let Some((i, j)) = ledger.claim_of(worker) else {
+        panic!(rt; "no claim");
+    };
+    let basis = ledger.basis();
+    assert!(rt; i < basis.len() && j < basis.len());
+    assert!(rt; coprime_leads(basis.move_at(i), basis.move_at(j)));
+    ledger.settle_coprime(worker)?;
+    Ok(())
+}
+
+#[test]
+fn a_pair_of_disjoint_leads_is_settled(rt: HostRuntime) -> Result<(), Fail> {
+    let start = start_of(&rt, MOVES[0], Some(1))?;
+    assert!(rt; start.len() <= 65_536);
+    let mut ledger = Ledger::new(rt.alloc(), start, 3, 65_536, 2)?;
+    let first = Claim::Claimed { i: 0, j: 1 };
+    assert_eq!(rt; answer_for(&rt, &mut ledger, 0), first);
+    let placed = place_first(&rt, &mut ledger)?;
+    assert!(rt; matches!(placed, Ok(2)), "{placed:?}");
+    let next = Claim::Claimed { i: 0, j: 2 };
+    assert_eq!(rt; answer_for(&rt, &mut ledger, 1), next);
+    let last = Claim::Claimed { i: 1, j: 2 };
+    assert_eq!(rt; answer_for(&rt, &mut ledger, 0), last);
+    settle_apart(&rt, &mut ledger, 0)?;
+    assert_eq!(rt; ledger.settled_count(), 2);
+    assert_eq!(rt; ledger.entry_at(1), ENTRIES[2]);
+    let claimed = Claim::NotYet {
+        worker: 1,
+        i: 0,
+        j: 2,
+    };
+    assert_eq!(rt; answer_for(&rt, &mut ledger, 0), claimed);
+    Ok(())
+}

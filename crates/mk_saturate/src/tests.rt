@@ -1,4 +1,4 @@
-ghost use Rattle.std.specs.Prelude.{◌≡◌, ◌≤◌, length, IfOk};
+ghost use Rattle.std.specs.Prelude.{◌≤◌, length};
 
 use crate::{Saturation, start_basis};
 use mk_files::Table;
@@ -24,64 +24,30 @@ fn begins_with_every_column_left(rt: HostRuntime) -> Result<(), Fail> {
     Ok(())
 }
 
-// The saturation that the rows of a table begin, for these weights.
-fn saturation_of(
-    rt: &(impl Abort + AllocGlobal),
-    lat: &Table,
-    weights: &[i64],
-) -> Result<Saturation, Fail>
+// How many columns the rows of a table free, for these weights, at a first call and at a second.
+fn freed(rt: &(impl Abort + AllocGlobal), lat: &Table, weights: &[i64]) -> Result<(u32, u32), Fail>
     requires { length weights.now ≤ 512 }
-    ensures { IfOk result (λ saturation. length saturation.left ≡ lat.now.columns) }
 {
     let grading = Grading::new(rt.alloc(), weights)?;
     assert_eq!(rt; lat.columns(), grading.columns());
     let list = Priority::standard(rt.alloc(), lat.columns())?;
+    assert_eq!(rt; list.columns(), lat.columns());
     start_basis(rt.alloc(), lat, grading.try_copy()?, list)?;
-    Ok(Saturation::start(rt.alloc(), lat, &grading)?)
-}
-
-// These columns of four are left, and no other.
-fn assert_left(rt: &impl Abort, saturation: &Saturation, left: [bool; 4])
-    requires { length saturation.now.left ≡ 4 }
-{
-    for column in 0..4u32 {
-        assert_eq!(rt;
-            saturation.is_left(column),
-            left[column as usize],
-            "column {column}"
-        );
-    }
+    let mut saturation = Saturation::start(rt.alloc(), lat, &grading)?;
+    let first = saturation.free_columns();
+    Ok((first, saturation.free_columns()))
 }
 
 #[test]
-fn the_twisted_cubic_frees_two_columns(rt: HostRuntime) -> Result<(), Fail> {
+fn two_columns_are_free(rt: HostRuntime) -> Result<(), Fail> {
     let entries = vec![in rt.alloc(); 1 as Entry, -2, 1, 0, 0, 1, -2, 1]?;
-    let lat = Table::from_entries(2, 4, entries);
-    let mut saturation = saturation_of(&rt, &lat, &[1, 1, 1, 1])?;
-    assert_eq!(rt; saturation.free_columns(), 2);
-    assert_left(&rt, &saturation, [true, false, true, false]);
-    assert_eq!(rt; saturation.free_columns(), 0);
-    Ok(())
-}
-
-#[test]
-fn three_like_columns_free_two(rt: HostRuntime) -> Result<(), Fail> {
+    let cubic = Table::from_entries(2, 4, entries);
+    assert_eq!(rt; freed(&rt, &cubic, &[1, 1, 1, 1])?, (2, 0));
     let entries = vec![in rt.alloc(); 1 as Entry, -1, 0, 0, 1, -1]?;
-    let lat = Table::from_entries(2, 3, entries);
-    let mut saturation = saturation_of(&rt, &lat, &[1, 1, 1])?;
-    assert_eq!(rt; saturation.free_columns(), 2);
-    assert!(rt; !saturation.is_left(0));
-    assert!(rt; !saturation.is_left(1));
-    assert!(rt; saturation.is_left(2));
-    Ok(())
-}
-
-#[test]
-fn overlapping_leads_free_two_columns(rt: HostRuntime) -> Result<(), Fail> {
+    let like = Table::from_entries(2, 3, entries);
+    assert_eq!(rt; freed(&rt, &like, &[1, 1, 1])?, (2, 0));
     let entries = vec![in rt.alloc(); 1 as Entry, 1, -1, -1, 1, -1, 1, -1, 1, -1, -1, 1]?;
-    let lat = Table::from_entries(3, 4, entries);
-    let mut saturation = saturation_of(&rt, &lat, &[1, 1, 1, 1])?;
-    assert_eq!(rt; saturation.free_columns(), 2);
-    assert_left(&rt, &saturation, [false, false, true, true]);
+    let overlapping = Table::from_entries(3, 4, entries);
+    assert_eq!(rt; freed(&rt, &overlapping, &[1, 1, 1, 1])?, (2, 0));
     Ok(())
 }

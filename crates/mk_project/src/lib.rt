@@ -3,10 +3,12 @@
 
 mod fault;
 mod file;
+mod laws;
 mod lines;
 #[cfg(test)]
 mod tests;
 
 pub use fault::InputFault;
 pub use file::{FILE_LIMIT, InputFile, file_name};
+pub use laws::limits_of_files;
 pub use lines::input_line;

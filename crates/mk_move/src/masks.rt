@@ -1,4 +1,5 @@
-ghost use Rattle.std.specs.Prelude.{◌≡◌, ◌≤◌, length, All};
+ghost use Rattle.std.specs.Prelude.{◌≡◌, ◌≢◌, ◌≤◌, ◌<◌, ℕ, length, All};
+ghost use Rattle.std.specs.Int.{bit_at};
 ghost use Rattle.mk_model.specs.Vectors.{IsEntry};
 ghost use Rattle.mk_move.specs.Masks.{block_width, AreMasks};
 
@@ -22,6 +23,19 @@ pub(crate) fn masks_of(row: &[Entry]) -> (u64, u64)
         }
     }
     (plus, minus)
+}
+
+/// The place of the lowest bit that is set, and the other bits.
+pub(crate) fn first_bit(bits: u64) -> (u32, u64)
+    requires { bits ≢ 0 }
+    ensures range { result.0 < 64 }
+    ensures set { bit_at bits result.0 ≡ 1 }
+    ensures cleared { bit_at result.1 result.0 ≡ 0 }
+    ensures others { (place : ℕ) → place < 64 → place ≢ result.0 → bit_at result.1 place ≡ bit_at bits place }
+    ensures fewer { result.1 < bits }
+{
+    let place = bits.trailing_zeros();
+    (place, bits & !(1 << place))
 }
 
 /// How many columns a block has, of so many columns: 1 for up to 64 columns, and 8 for 512.

@@ -130,15 +130,16 @@ impl Move {
     }
 
     /// Its entries, column by column.
-    pub(crate) fn entries(&self) -> &[Entry]
+    pub fn entries(&self) -> &[Entry]
         ensures value { result.now ≡ self.now.entries }
         ensures kept { IsMoveKept self.now }
     {
         self.entries.as_slice()
     }
 
-    /// The mask of its part on a side.
-    pub(crate) fn mask(&self, side: Side) -> u64
+    /// The mask of its part on a side: a bit for each block of columns, set where the part has an entry. A block is one
+    /// column where there are at most 64.
+    pub fn mask(&self, side: Side) -> u64
         ensures { IsMask (part_of side self.now.entries) result }
     {
         match side {

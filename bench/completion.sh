@@ -8,29 +8,14 @@
 program=$(realpath "$1")
 shift
 sizes=${*:-4 5 6 7 8}
+. "$(dirname "$0")/lattice.sh"
 work=$(mktemp -d) || exit 2
 trap 'rm -rf "$work"' EXIT
 cd "$work" || exit 2
 export LC_ALL=C
 
-# The lattice of the independence model of n rows and n columns: a move for each two adjacent rows and columns.
-independence() {
-    awk -v n="$1" 'BEGIN {
-        print (n - 1) * (n - 1), n * n
-        for (i = 0; i < n - 1; i++) for (j = 0; j < n - 1; j++) {
-            for (c = 0; c < n * n; c++) {
-                entry = 0
-                if (c == i * n + j || c == (i + 1) * n + j + 1) entry = 1
-                if (c == i * n + j + 1 || c == (i + 1) * n + j) entry = -1
-                printf "%s%d", c ? " " : "", entry
-            }
-            print ""
-        }
-    }'
-}
-
 for size in $sizes; do
-    independence "$size" >P.lat
+    lattice "${size}x$size" >P.lat
     begin=${EPOCHREALTIME/./}
     said=$("$program") || { echo "size $size: status $?" >&2; exit 1; }
     time=$((${EPOCHREALTIME/./} - begin))

@@ -13,33 +13,12 @@ markov=$(realpath "$1")
 solve=$(realpath "$2")
 shift 2
 models=${*:-3x3x3 6x6 8x8 3x3x4}
+. "$(dirname "$0")/lattice.sh"
 work=$(mktemp -d) || exit 2
 trap 'rm -rf "$work"' EXIT
 cd "$work" || exit 2
 export LC_ALL=C
 failed=0
-
-# The lattice of a model of two or three sizes: a move for each two neighbours in every direction, with the sign of the
-# number of second neighbours.
-model() {
-    echo "$1" | awk -Fx '{
-        for (k = 1; k <= NF; k++) size[k] = $k
-        if (NF == 2) size[3] = 0
-        cells = size[1] * size[2] * (NF == 3 ? size[3] : 1)
-        last = NF == 3 ? size[3] - 1 : 1
-        print (size[1] - 1) * (size[2] - 1) * last, cells
-        for (a = 0; a < size[1] - 1; a++) for (b = 0; b < size[2] - 1; b++) for (c = 0; c < last; c++) {
-            for (k = 0; k < cells; k++) entry[k] = 0
-            for (x = 0; x < 2; x++) for (y = 0; y < 2; y++) for (z = 0; z < (NF == 3 ? 2 : 1); z++) {
-                place = (a + x) * size[2] + b + y
-                if (NF == 3) place = place * size[3] + c + z
-                entry[place] = (x + y + z) % 2 ? -1 : 1
-            }
-            for (k = 0; k < cells; k++) printf "%s%d", k ? " " : "", entry[k]
-            print ""
-        }
-    }'
-}
 
 # Goes through the parts, each line with the microseconds since the one before in front.
 parts() {
@@ -54,7 +33,7 @@ parts() {
 
 for name in $models; do
     rm -f P.mar
-    model "$name" >P.lat
+    lattice "$name" >P.lat
     parts >parts || { echo "$name: status $? of the parts" >&2; failed=1; continue; }
     begin=${EPOCHREALTIME/./}
     "$markov" P

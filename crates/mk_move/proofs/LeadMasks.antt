@@ -1,5 +1,6 @@
 -- The masks of leads beside their moves: how they grow by a move, and which third moves they leave out.
 use Rattle.std.proofs.Common.{◌≡◌, ◌≢◌, ◌⊎◌, inl, inr, ℕ, ◌+◌, ◌<◌, ◌≤◌, ◌^◌, List, [], ◌∷◌, ◌++◌, length, get_or, arith, sym, ap, ◌∙◌, ℤ, pos}
+use mir.Val.{Fits}
 use Rattle.std.specs.Int.{w64, bit_not}
 use Rattle.std.specs.Int.RustNames.{bit_and, bit_or}
 use Rattle.std.proofs.lemmas.Bool.{cases_lt}
@@ -60,12 +61,15 @@ columns_at basis k h l =
 
 -- a mask that isn't within those of two others: the lead doesn't divide the least common multiple of the two
 pub not_between : (basis : BasisView) (masks : List ℕ) (i j k : ℕ) → IsBasis basis → AreLeadMasks basis.moves masks → i < length basis.moves → j < length basis.moves → k < length basis.moves →
-    get_or masks i 0 < 2 ^ 64 → get_or masks j 0 < 2 ^ 64 → get_or masks k 0 < 2 ^ 64 →
+    ((n : ℕ) → Fits w64 (get_or masks n 0)) →
     bit_and (get_or masks k 0) (bit_not w64 (bit_or (get_or masks i 0) (get_or masks j 0))) ≢ 0 → DividesBetween (vectors_of basis.moves) i j k → ⊥
-not_between basis masks i j k h g first second third fits_first fits_second fits_third some =
-    not_dividing v (lcm a b) (get_or masks k 0) (bit_or (get_or masks i 0) (get_or masks j 0)) fits_third (or_lt 64 (get_or masks i 0) (get_or masks j 0) fits_first fits_second)
+not_between basis masks i j k h g first second third fits some =
+    not_dividing v (lcm a b) (get_or masks k 0) (bit_or (get_or masks i 0) (get_or masks j 0)) (bound k) (or_lt 64 (get_or masks i 0) (get_or masks j 0) (bound i) (bound j))
     (omega (arith, lengths, length-lcm a b)) (g.each k third) (mask_of_lcm a b _ _ (omega (arith, lengths)) (g.each i first) (g.each j second)) some
   where
+    bound : (n : ℕ) → get_or masks n 0 < 2 ^ 64
+    bound n = omega (arith, fits n)
+
     a : List ℤ
     a = lead (move_at (vectors_of basis.moves) i)
 

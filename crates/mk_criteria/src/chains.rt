@@ -19,7 +19,8 @@ pub fn find_chain<S: SettledPairs>(basis: &Basis, settled: &S, i: u32, j: u32) -
 {
     let masks = basis.lead_masks();
     let outside = !(masks[i as usize] | masks[j as usize]);
-    for k in 0..basis.len() {
+    let end = basis.len().min(settled.settled_end(j));
+    for k in 0..end {
         if masks[k as usize] & outside == 0 && is_chain(basis, settled, i, j, k) {
             return Some(k);
         }

@@ -17,8 +17,11 @@ pub fn find_chain<S: SettledPairs>(basis: &Basis, settled: &S, i: u32, j: u32) -
     ensures found { IfSome result (IsLeastChain (vectors_of basis.now.moves) (S.journal settled.now) (pair_of i j)) }
     ensures none { IfNone result ((k : ℕ) → ¬ (IsChain (vectors_of basis.now.moves) (S.journal settled.now) (pair_of i j) k)) }
 {
-    for k in 0..basis.len() {
-        if is_chain(basis, settled, i, j, k) {
+    let masks = basis.lead_masks();
+    let outside = !(masks[i as usize] | masks[j as usize]);
+    let end = basis.len().min(settled.settled_end(j));
+    for k in 0..end {
+        if masks[k as usize] & outside == 0 && is_chain(basis, settled, i, j, k) {
             return Some(k);
         }
     }
@@ -33,8 +36,10 @@ pub fn chain_candidates(basis: &Basis, i: u32, j: u32, from: u32) -> Option<u32>
     ensures found { IfSome result (IsLeastThirdMove (vectors_of basis.now.moves) (pair_of i j) from) }
     ensures none { IfNone result ((k : ℕ) → from ≤ k → ¬ (IsThirdMove (vectors_of basis.now.moves) (pair_of i j) k)) }
 {
+    let masks = basis.lead_masks();
+    let outside = !(masks[i as usize] | masks[j as usize]);
     for k in from..basis.len() {
-        if is_third_move(basis, i, j, k) {
+        if masks[k as usize] & outside == 0 && is_third_move(basis, i, j, k) {
             return Some(k);
         }
     }

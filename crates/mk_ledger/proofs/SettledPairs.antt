@@ -8,7 +8,7 @@ use Rattle.mk_model.specs.Legal.{IsNext, Replays, IsLegal}
 use Rattle.mk_model.proofs.Lists.{Contains-none}
 use Rattle.mk_model.proofs.Journals.{settled_cases, IsPairOf-append, Grows, moves_grow}
 use Rattle.mk_ledger.specs.PairFlags.{pair_number}
-use Rattle.mk_ledger.specs.Ledgers.{AreFlagged}
+use Rattle.mk_ledger.specs.Ledgers.{AreFlagged, AreInOrder}
 
 -- each pair that the journal settles is one of the moves
 abbrev ArePairsOf : List Settle → List (List ℤ) → Type 0
@@ -62,3 +62,9 @@ either_tells {state = state} {flags = flags} legal flagged i j apart within = go
         let low : min i j ≡ j = omega (arith, l) in
         let high : max i j ≡ i = omega (arith, l) in
         rw (low, high) (swapped_tells legal flagged i j (omega (arith, l, apart, low, high)) (omega (arith, within, high)))
+
+-- no pair of two places is settled whose number isn't below that of the claims made
+pub none_from : {n : ℕ} {priority : List ℕ} {state : CoreState} → IsLegal n priority state → AreInOrder state → (j k : ℕ) → (k < j → state.claims_made ≤ pair_number k j) → (j < k → state.claims_made ≤ pair_number j k) →
+    ¬ (AreSettled state.journal j k)
+none_from legal order j k first second (inl s) = let p = settled_of_basis legal (pair_of j k) s in omega (arith, second p.ordered, order.settled (pair_of j k) s)
+none_from legal order j k first second (inr s) = let p = settled_of_basis legal (pair_of k j) s in omega (arith, first p.ordered, order.settled (pair_of k j) s)

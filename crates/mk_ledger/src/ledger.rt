@@ -242,6 +242,13 @@ impl Ledger {
         self.settled.is_settled(low, high)
     }
 
+    /// From this place on no place has a settled pair with `j`.
+    pub fn settled_end(&self, j: u32) -> u32
+        ensures { (k : ℕ) → result ≤ k → ¬ (AreSettled self.now.state.journal j k) }
+    {
+        self.next.end_beside(j)
+    }
+
     /// Answers a worker that asks for a pair and has none. Where no worker has halted, a pair is free and the budget isn't
     /// used up, the least free pair is its claim from now on. It allocates nothing.
     pub fn claim(&mut self, worker: u32) -> Claim
@@ -489,6 +496,10 @@ impl SettledPairs for Ledger {
 
     fn is_settled(&self, i: u32, j: u32) -> bool {
         Ledger::is_settled(self, i, j)
+    }
+
+    fn settled_end(&self, j: u32) -> u32 {
+        Ledger::settled_end(self, j)
     }
 }
 

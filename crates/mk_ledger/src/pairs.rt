@@ -1,6 +1,4 @@
-ghost use Rattle.std.specs.Prelude.{◌≡◌, ◌+◌, ◌<◌, ◌≤◌, ◌↔◌, IsTrue};
-ghost use Rattle.mk_ledger.specs.PairFlags.{pairs_of, pair_number};
-ghost use Rattle.std.specs.Prelude.{◌≡◌, ◌+◌, ◌<◌, ◌≤◌, ◌^◌};
+ghost use Rattle.std.specs.Prelude.{◌≡◌, ◌+◌, ◌<◌, ◌≤◌, ◌↔◌, ◌^◌, ℕ, IsTrue};
 ghost use Rattle.mk_ledger.specs.PairFlags.{pairs_of, pair_number};
 
 use std::marker::Model;
@@ -73,6 +71,20 @@ impl Frontier {
         ensures { IsTrue result ↔ self.now < pairs_of moves }
     {
         self.j < moves
+    }
+
+    /// From this place on each place has its pair with `j` at the next pair or behind it.
+    pub fn end_beside(&self, j: u32) -> u32
+        ensures first { (k : ℕ) → result ≤ k → k < j → self.now ≤ pair_number k j }
+        ensures second { (k : ℕ) → result ≤ k → j < k → self.now ≤ pair_number j k }
+    {
+        if j < self.j {
+            self.j + 1
+        } else if j == self.j {
+            self.i
+        } else {
+            0
+        }
     }
 
     /// Goes on to the next pair.

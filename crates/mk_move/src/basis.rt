@@ -1,9 +1,10 @@
 ghost use Rattle.std.specs.Prelude.{◌≡◌, ◌+◌, ◌^◌, ◌<◌, [], ◌∷◌, ◌++◌, length, IfOk, IfErr, OnOk, OnErr, slice_get};
-ghost use Rattle.mk_move.specs.MoveLists.{BelongsTo, IsBasis};
+ghost use Rattle.mk_move.specs.MoveLists.{BelongsTo, IsBasis, AreLeadMasks};
 
 use crate::grading::Grading;
 use crate::moves::Move;
 use crate::priority::Priority;
+use crate::side::Side;
 use mk_model::NoMemory;
 use std::alloc::Global;
 use std::marker::Model;
@@ -19,18 +20,20 @@ pub struct PushFault {
 #[derive(Debug, Drop)]
 pub struct Basis {
     moves: Vec<Move>,
+    lead_masks: Vec<u64>,
     priority: Priority,
     grading: Grading,
 }
 
 impl Model for Basis {
-    ghost use Rattle.mk_move.specs.MoveLists.{BasisView, IsBasis};
+    ghost use Rattle.mk_move.specs.MoveLists.{BasisView, IsBasis, AreLeadMasks};
 
     ghost Value = { BasisView };
 
     ghost view = { λ b. record { moves = b.moves.items; priority = b.priority; grading = b.grading } };
 
-    ghost invariant = { λ b. IsBasis (record { moves = b.moves.items; priority = b.priority; grading = b.grading }) };
+    ghost invariant = { λ b. IsBasis (record { moves = b.moves.items; priority = b.priority; grading = b.grading })
+        × AreLeadMasks b.moves.items b.lead_masks.items };
 }
 
 impl Basis {
@@ -43,6 +46,7 @@ impl Basis {
     {
         Basis {
             moves: Vec::new(alloc),
+            lead_masks: Vec::new(alloc),
             priority,
             grading,
         }
@@ -57,11 +61,17 @@ impl Basis {
         ensures err { OnErr result (self.new ≡ self.old) }
         ensures given { IfErr result (λ fault. fault.given ≡ m) }
     {
+        if self.lead_masks.push(m.mask(Side::Plus)).is_err() {
+            return Err(PushFault { given: m });
+        }
         match self.moves.push(m) {
             Ok(()) => Ok(()),
-            Err(failed) => Err(PushFault {
-                given: failed.value,
-            }),
+            Err(failed) => {
+                let _ = self.lead_masks.pop();
+                Err(PushFault {
+                    given: failed.value,
+                })
+            }
         }
     }
 
@@ -80,6 +90,14 @@ impl Basis {
         ensures belongs { BelongsTo self.now.priority self.now.grading result.now }
     {
         &self.moves[k as usize]
+    }
+
+    /// The mask of the lead of each move, in their order: a bit for each block of columns, set where the lead has an entry.
+    pub fn lead_masks(&self) -> &[u64]
+        ensures masks { AreLeadMasks self.now.moves result.now }
+        ensures kept { IsBasis self.now }
+    {
+        &self.lead_masks
     }
 
     /// The list that orients its moves.
@@ -103,6 +121,7 @@ impl Basis {
         let moves = copies(*self.moves.allocator(), self.moves.as_slice())?;
         Ok(Basis {
             moves,
+            lead_masks: self.lead_masks.clone()?,
             priority: self.priority.try_copy()?,
             grading: self.grading.try_copy()?,
         })

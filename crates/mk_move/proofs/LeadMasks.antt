@@ -1,0 +1,86 @@
+-- The masks of leads beside their moves: how they grow by a move, and which third moves they leave out.
+use Rattle.std.proofs.Common.{◌≡◌, ◌≢◌, ◌⊎◌, inl, inr, ℕ, ◌+◌, ◌<◌, ◌≤◌, ◌^◌, List, [], ◌∷◌, ◌++◌, length, get_or, arith, sym, ap, ◌∙◌, ℤ, pos}
+use mir.Val.{Fits}
+use Rattle.std.specs.Int.{w64, bit_not}
+use Rattle.std.specs.Int.RustNames.{bit_and, bit_or}
+use Rattle.std.proofs.lemmas.Bool.{cases_lt}
+use Rattle.std.proofs.lemmas.List.{length-append, length-map, map-append, get_or-map, get_or_append_left}
+use Rattle.std.proofs.lemmas.Nat.{or_lt}
+use Rattle.std.proofs.Math.Seq.{get_or-append_seam}
+use Rattle.mk_model.specs.CoreStates.{move_at}
+use Rattle.mk_model.specs.Orders.{lead}
+use Rattle.mk_model.specs.Reductions.{lcm}
+use Rattle.mk_model.proofs.VectorAlgebra.{length-positive_part}
+use Rattle.mk_model.proofs.Divisors.{length-lcm}
+use Rattle.mk_move.specs.Chains.{DividesBetween}
+use Rattle.mk_move.specs.Masks.{IsMask}
+use Rattle.mk_move.specs.Moves.{Weighed}
+use Rattle.mk_move.specs.MoveLists.{BasisView, IsBasis, AreLeadMasks, vectors_of}
+use Rattle.mk_move.proofs.Chains.{mask_of_lcm}
+use Rattle.mk_move.proofs.MaskTests.{not_dividing}
+
+-- ---- one move more
+module _ (moves : List Weighed) (m : Weighed) where
+  vectors_more : vectors_of (moves ++ m ∷ []) ≡ vectors_of moves ++ m.entries ∷ []
+  vectors_more = map-append (λ (m : Weighed). m.entries) moves (m ∷ [])
+
+  length_vectors : length (vectors_of moves) ≡ length moves
+  length_vectors = length-map moves (λ (m : Weighed). m.entries)
+
+  move_before : (k : ℕ) → k < length moves → move_at (vectors_of (moves ++ m ∷ [])) k ≡ move_at (vectors_of moves) k
+  move_before k l = ap (λ v. move_at v k) vectors_more ∙ get_or_append_left (vectors_of moves) (m.entries ∷ []) [] k (omega (arith, l, length_vectors))
+
+  move_behind : move_at (vectors_of (moves ++ m ∷ [])) (length moves) ≡ m.entries
+  move_behind =
+      ap (λ v. move_at v (length moves)) vectors_more ∙ ap (move_at (vectors_of moves ++ m.entries ∷ [])) (sym length_vectors)
+      ∙ get_or-append_seam (vectors_of moves) m.entries [] []
+
+pub lead_masks_more : (moves : List Weighed) (masks : List ℕ) (m : Weighed) (mask : ℕ) → AreLeadMasks moves masks → IsMask (lead m.entries) mask → AreLeadMasks (moves ++ m ∷ []) (masks ++ mask ∷ [])
+lead_masks_more moves masks m mask h g = record {
+  count = omega (arith, h.count, length-append masks (mask ∷ []), length-append moves (m ∷ []));
+  each = λ k l. at k (cases_lt k (length moves)) (omega (arith, l, length-append moves (m ∷ [])));
+}
+  where
+    at : (k : ℕ) → (k < length moves) ⊎ (length moves ≤ k) → k < length moves + 1 → IsMask (lead (move_at (vectors_of (moves ++ m ∷ [])) k)) (get_or (masks ++ mask ∷ []) k 0)
+    at k (inl l) _ =
+        rw (move_before moves m k l, get_or_append_left masks (mask ∷ []) 0 k (omega (arith, l, h.count))) (h.each k l)
+    at k (inr l) few =
+        let here : k ≡ length moves = omega (arith, l, few) in
+        let mask_is : get_or (masks ++ mask ∷ []) k 0 ≡ mask = ap (λ n. get_or (masks ++ mask ∷ []) n 0) (here ∙ sym h.count) ∙ get_or-append_seam masks mask [] 0 in
+        let move_is : move_at (vectors_of (moves ++ m ∷ [])) k ≡ m.entries = ap (move_at (vectors_of (moves ++ m ∷ []))) here ∙ move_behind moves m in
+        rw (move_is, mask_is) g
+
+-- ---- third moves that the masks leave out
+-- the moves of a basis have as many columns as its list
+columns_at : (basis : BasisView) (k : ℕ) → IsBasis basis → k < length basis.moves → length (move_at (vectors_of basis.moves) k) ≡ length basis.priority
+columns_at basis k h l =
+    ap length (get_or-map (λ (m : Weighed). m.entries) basis.moves k nothing [] l) ∙ (h.moves k nothing l).columns
+  where
+    nothing : Weighed
+    nothing = record { entries = []; weight = pos 0 }
+
+-- a mask that isn't within those of two others: the lead doesn't divide the least common multiple of the two
+pub not_between : (basis : BasisView) (masks : List ℕ) (i j k : ℕ) → IsBasis basis → AreLeadMasks basis.moves masks → i < length basis.moves → j < length basis.moves → k < length basis.moves →
+    ((n : ℕ) → Fits w64 (get_or masks n 0)) →
+    bit_and (get_or masks k 0) (bit_not w64 (bit_or (get_or masks i 0) (get_or masks j 0))) ≢ 0 → DividesBetween (vectors_of basis.moves) i j k → ⊥
+not_between basis masks i j k h g first second third fits some =
+    not_dividing v (lcm a b) (get_or masks k 0) (bit_or (get_or masks i 0) (get_or masks j 0)) (bound k) (or_lt 64 (get_or masks i 0) (get_or masks j 0) (bound i) (bound j))
+    (omega (arith, lengths, length-lcm a b)) (g.each k third) (mask_of_lcm a b _ _ (omega (arith, lengths)) (g.each i first) (g.each j second)) some
+  where
+    bound : (n : ℕ) → get_or masks n 0 < 2 ^ 64
+    bound n = omega (arith, fits n)
+
+    a : List ℤ
+    a = lead (move_at (vectors_of basis.moves) i)
+
+    b : List ℤ
+    b = lead (move_at (vectors_of basis.moves) j)
+
+    v : List ℤ
+    v = lead (move_at (vectors_of basis.moves) k)
+
+    lead_columns : (c : ℕ) → c < length basis.moves → length (lead (move_at (vectors_of basis.moves) c)) ≡ length basis.priority
+    lead_columns c l = length-positive_part (move_at (vectors_of basis.moves) c) ∙ columns_at basis c h l
+
+    lengths : (length a ≡ length basis.priority) × (length b ≡ length basis.priority) × (length v ≡ length basis.priority)
+    lengths = (lead_columns i first, lead_columns j second, lead_columns k third)

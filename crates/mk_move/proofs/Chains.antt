@@ -40,10 +40,15 @@ within_lcm x a b h = omega (arith, ints, clamps)
 not_within_lcm : (x a b : ℤ) → lcm_on a b <ℤ x → int_max x (pos 0) ≤ℤ lcm_on a b → ⊥
 not_within_lcm x a b h k = omega (arith, ints, clamps)
 
+pub divides_lcm_here : (lead a b : List ℤ) (n : ℕ) → entry lead n ≤ℤ lcm_on (entry a n) (entry b n) → entry (positive_part lead) n ≤ℤ entry (lcm (positive_part a) (positive_part b)) n
+divides_lcm_here lead a b n k = simp (entry-positive_part, entry-lcm_on) (within_lcm (entry lead n) (entry a n) (entry b n) k)
+
+pub lcm_nonnegative : (a b : List ℤ) (c : ℕ) → pos 0 ≤ℤ entry (lcm (positive_part a) (positive_part b)) c
+lcm_nonnegative a b c = subst (λ (z : ℤ). pos 0 ≤ℤ z) (sym (entry-lcm_on a b c)) (lcm_on_nonnegative (entry a c) (entry b c))
+
 pub divides_lcm_more : (lead a b : List ℤ) (n : ℕ) → DividesLcmUpTo lead a b n → entry lead n ≤ℤ lcm_on (entry a n) (entry b n) → DividesLcmUpTo lead a b (n + 1)
 divides_lcm_more lead a b n h k =
-    below_more (λ c. entry (positive_part lead) c ≤ℤ entry (lcm (positive_part a) (positive_part b)) c) n h
-    (simp (entry-positive_part, entry-lcm_on) (within_lcm (entry lead n) (entry a n) (entry b n) k))
+    below_more (λ c. entry (positive_part lead) c ≤ℤ entry (lcm (positive_part a) (positive_part b)) c) n h (divides_lcm_here lead a b n k)
 
 pub divides_lcm_whole : (lead a b : List ℤ) (n : ℕ) → length lead ≤ n → DividesLcmUpTo lead a b n → Divides (positive_part lead) (lcm (positive_part a) (positive_part b))
 divides_lcm_whole lead a b n l h = record { entries = λ c. at c (cases_lt c n) }
@@ -51,8 +56,7 @@ divides_lcm_whole lead a b n l h = record { entries = λ c. at c (cases_lt c n) 
     at : (c : ℕ) → (c < n) ⊎ (n ≤ c) → entry (positive_part lead) c ≤ℤ entry (lcm (positive_part a) (positive_part b)) c
     at c (inl k) = h c k
     at c (inr k) =
-        subst (λ (z : ℤ). z ≤ℤ entry (lcm (positive_part a) (positive_part b)) c) (sym (part_of_past Plus lead c (omega arith)))
-        (subst (λ (z : ℤ). pos 0 ≤ℤ z) (sym (entry-lcm_on a b c)) (lcm_on_nonnegative (entry a c) (entry b c)))
+        subst (λ (z : ℤ). z ≤ℤ entry (lcm (positive_part a) (positive_part b)) c) (sym (part_of_past Plus lead c (omega arith))) (lcm_nonnegative a b c)
 
 pub divides_lcm_not : (lead a b : List ℤ) (n : ℕ) → lcm_on (entry a n) (entry b n) <ℤ entry lead n → Divides (positive_part lead) (lcm (positive_part a) (positive_part b)) → ⊥
 divides_lcm_not lead a b n h d =

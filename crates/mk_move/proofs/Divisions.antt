@@ -46,10 +46,13 @@ within_part a b h k = omega (arith, ints, clamps)
 not_within : (a b : ℤ) → b <ℤ a → int_max a (pos 0) ≤ℤ b → ⊥
 not_within a b h k = omega (arith, ints, clamps)
 
+pub divides_here : (lead row : List ℤ) (side : Side) (n : ℕ) → entry lead n ≤ℤ entry_on side (entry row n) → entry (positive_part lead) n ≤ℤ entry (part_of side row) n
+divides_here lead row side n k =
+    simp (entry-positive_part, entry-part_of) (within_part (entry lead n) (entry_on side (entry row n)) (entry_on_nonnegative side (entry row n)) k)
+
 pub divides_more : (lead row : List ℤ) (side : Side) (n : ℕ) → DividesUpTo lead row side n → entry lead n ≤ℤ entry_on side (entry row n) → DividesUpTo lead row side (n + 1)
 divides_more lead row side n h k =
-    below_more (λ c. entry (positive_part lead) c ≤ℤ entry (part_of side row) c) n h
-    (simp (entry-positive_part, entry-part_of) (within_part (entry lead n) (entry_on side (entry row n)) (entry_on_nonnegative side (entry row n)) k))
+    below_more (λ c. entry (positive_part lead) c ≤ℤ entry (part_of side row) c) n h (divides_here lead row side n k)
 
 pub divides_whole : (lead row : List ℤ) (side : Side) (n : ℕ) → length lead ≤ n → DividesUpTo lead row side n → Divides (positive_part lead) (part_of side row)
 divides_whole lead row side n l h = record { entries = λ c. at c (cases_lt c n) }
@@ -68,7 +71,7 @@ DisjointUpTo a b n = (c : ℕ) → c < n → (entry (positive_part a) c ≡ pos 
 none_above : (a : ℤ) → a ≤ℤ pos 0 → int_max a (pos 0) ≡ pos 0
 none_above a h = omega (arith, ints, clamps)
 
-no_part : (x : List ℤ) (c : ℕ) → entry x c ≤ℤ pos 0 → entry (positive_part x) c ≡ pos 0
+pub no_part : (x : List ℤ) (c : ℕ) → entry x c ≤ℤ pos 0 → entry (positive_part x) c ≡ pos 0
 no_part x c h = entry-positive_part x c ∙ none_above (entry x c) h
 
 pub disjoint_more : (a b : List ℤ) (n : ℕ) → DisjointUpTo a b n → (entry a n ≤ℤ pos 0) ⊎ (entry b n ≤ℤ pos 0) → DisjointUpTo a b (n + 1)
@@ -90,14 +93,18 @@ disjoint_not a b n h k d = elim (d n) [
 ]
 
 -- ---- how often it divides
--- the greatest number of times, as far as the columns so far say
-pub record IsTimesSoFar (lead row : List ℤ) (side : Side) (n : ℕ) (times : ℤ) : Type 0 where
+-- the greatest number of times, as far as the columns say that are done
+pub record IsTimesOver (lead row : List ℤ) (side : Side) (IsDone : ℕ → Type 0) (times : ℤ) : Type 0 where
   pub count : ℕ
   pub value : times ≡ pos count
   pub some : 1 ≤ count
   pub most : count ≤ most_entry
-  pub below : (c : ℕ) → c < n → count * up (entry lead c) ≤ up (entry_on side (entry row c))
+  pub below : (c : ℕ) → IsDone c → count * up (entry lead c) ≤ up (entry_on side (entry row c))
   pub greatest : (q : ℕ) → Divides (scale (pos q) (positive_part lead)) (part_of side row) → q ≤ count
+
+-- as far as the columns so far say
+abbrev pub IsTimesSoFar : List ℤ → List ℤ → Side → ℕ → ℤ → Type 0
+IsTimesSoFar lead row side n times = IsTimesOver lead row side (λ c. c < n) times
 
 -- so many times the entry of the lead
 scaled_entry : (q : ℕ) (lead : List ℤ) (c : ℕ) → entry (scale (pos q) (positive_part lead)) c ≡ pos (q * up (entry lead c))
@@ -118,7 +125,7 @@ times_at q lead row side c d =
     let h : pos (q * up (entry lead c)) ≤ℤ pos (up (entry_on side (entry row c))) = simp (scaled_entry, part_entry) at (d.entries c) in
     omega (arith, ints)
 
-lead_at : (lead row : List ℤ) (side : Side) (c : ℕ) → Divides (positive_part lead) (part_of side row) → up (entry lead c) ≤ up (entry_on side (entry row c))
+pub lead_at : (lead row : List ℤ) (side : Side) (c : ℕ) → Divides (positive_part lead) (part_of side row) → up (entry lead c) ≤ up (entry_on side (entry row c))
 lead_at lead row side c d =
     let h : entry (positive_part lead) c ≤ℤ pos (up (entry_on side (entry row c))) = simp part_entry at (d.entries c) in
     omega (arith, ints, columns)
@@ -127,7 +134,7 @@ pub entry_on_range : (side : Side) (a : ℤ) → IsEntry a → IsEntry (entry_on
 entry_on_range Plus a h = (omega (arith, ints, clamps, h.0), omega (arith, ints, clamps, h.1))
 entry_on_range Minus a h = (omega (arith, ints, clamps, h.1), omega (arith, ints, clamps, h.0))
 
-up_most : (a : ℤ) (n : ℕ) → a ≤ℤ pos n → up a ≤ n
+pub up_most : (a : ℤ) (n : ℕ) → a ≤ℤ pos n → up a ≤ n
 up_most (pos m) n h = omega (arith, ints)
 up_most (negsuc m) n h = omega arith
 
@@ -172,14 +179,15 @@ times_same lead row side n times l h = record {
   greatest = h.greatest;
 }
 
--- a column with b in the lead and a in the part
-pub times_less : (lead row : List ℤ) (side : Side) (n : ℕ) (times : ℤ) (a b : ℕ) → entry lead n ≡ pos b → 1 ≤ b → entry_on side (entry row n) ≡ pos a → Divides (positive_part lead) (part_of side row) → IsTimesSoFar lead row side n times → IsTimesSoFar lead row side (n + 1) (int_min times (pos (a / b)))
-times_less lead row side n times a b e positive f divides h = record {
+-- one column more is done, with b in the lead and a in the part
+pub times_fewer : (lead row : List ℤ) (side : Side) (IsDone IsDoneThen : ℕ → Type 0) (n : ℕ) (times : ℤ) (a b : ℕ) → ((c : ℕ) → IsDoneThen c → IsDone c ⊎ (c ≡ n)) → entry lead n ≡ pos b → 1 ≤ b → entry_on side (entry row n) ≡ pos a →
+    Divides (positive_part lead) (part_of side row) → IsTimesOver lead row side IsDone times → IsTimesOver lead row side IsDoneThen (int_min times (pos (a / b)))
+times_fewer lead row side IsDone IsDoneThen n times a b more e positive f divides h = record {
   count = min h.count (a / b);
   value = ap (λ z. int_min z (pos (a / b))) h.value ∙ int_min-pos h.count (a / b);
   some = omega (arith, h.some, at_least);
   most = omega (arith, h.most);
-  below = below_more (λ c. min h.count (a / b) * up (entry lead c) ≤ up (entry_on side (entry row c))) n (λ c l. before c l) here;
+  below = λ c then. at c (more c then);
   greatest = λ q d. both q (h.greatest q d) (quotient q (rw (e, f) at (times_at q lead row side n d)));
 }
   where
@@ -195,7 +203,7 @@ times_less lead row side n times a b e positive f divides h = record {
     at_least : 1 ≤ a / b
     at_least = quotient 1 (omega (arith, within))
 
-    before : (c : ℕ) → c < n → min h.count (a / b) * up (entry lead c) ≤ up (entry_on side (entry row c))
+    before : (c : ℕ) → IsDone c → min h.count (a / b) * up (entry lead c) ≤ up (entry_on side (entry row c))
     before c l = omega (arith, h.below c l, mul-le-mul_left (up (entry lead c)) (least h.count (a / b)))
       where
         least : (i j : ℕ) → min i j ≤ i
@@ -207,12 +215,23 @@ times_less lead row side n times a b e positive f divides h = record {
         least : (i j : ℕ) → min i j ≤ j
         least i j = omega arith
 
+    at : (c : ℕ) → IsDone c ⊎ (c ≡ n) → min h.count (a / b) * up (entry lead c) ≤ up (entry_on side (entry row c))
+    at c (inl done) = before c done
+    at c (inr same) = subst (λ m. min h.count (a / b) * up (entry lead m) ≤ up (entry_on side (entry row m))) (sym same) here
+
     both : (q : ℕ) → q ≤ h.count → q ≤ a / b → q ≤ min h.count (a / b)
     both q k l = omega arith
 
+-- a column with b in the lead and a in the part
+pub times_less : (lead row : List ℤ) (side : Side) (n : ℕ) (times : ℤ) (a b : ℕ) → entry lead n ≡ pos b → 1 ≤ b → entry_on side (entry row n) ≡ pos a → Divides (positive_part lead) (part_of side row) → IsTimesSoFar lead row side n times → IsTimesSoFar lead row side (n + 1) (int_min times (pos (a / b)))
+times_less lead row side n times a b e positive f divides h = times_fewer lead row side (λ c. c < n) (λ c. c < n + 1) n times a b one_more e positive f divides h
+  where
+    one_more : (c : ℕ) → c < n + 1 → (c < n) ⊎ (c ≡ n)
+    one_more c l = elim (cases_lt c n) [ inl k ↦ inl k | inr k ↦ inr (omega (arith, l, k)) ]
+
 -- so many times are no more than an entry may be
-pub times_range : (lead row : List ℤ) (side : Side) (n : ℕ) (times : ℤ) → IsTimesSoFar lead row side n times → IsEntry times
-times_range lead row side n times h =
+pub times_range : (lead row : List ℤ) (side : Side) (IsDone : ℕ → Type 0) (times : ℤ) → IsTimesOver lead row side IsDone times → IsEntry times
+times_range lead row side IsDone times h =
     let range : IsEntry (pos h.count) = (omega (arith, ints), omega (arith, ints, h.most)) in
     subst IsEntry (sym h.value) range
 

@@ -4,14 +4,15 @@ pub mod StandardLists
 pub mod FirstLists
 pub mod Parts
 pub mod Divisions
+pub mod BitWalks
 pub mod Readings
 pub mod Factors
 pub mod Comparisons
 pub mod Orientations
 pub mod Differences
 pub mod Belongings
+pub mod LeadMasks
 pub mod Blocks
 pub mod MaskTests
 pub mod MaskOrders
 pub mod Chains
-pub mod LeadMasks

@@ -60,7 +60,7 @@ apart_disjoint x y left right l m n h g none c =
     only_zero a h k = omega (arith, ints)
 
 -- for up to 64 columns a block is a column
-one_column : (x : List ℤ) (c : ℕ) → length x ≤ 64 → block_of x c ≡ c
+pub one_column : (x : List ℤ) (c : ℕ) → length x ≤ 64 → block_of x c ≡ c
 one_column x c few = let e : block_width (length x) ≡ 1 = omega arith in ap (λ n. c / n) e ∙ div-one c
 
 not_disjoint_at : (x y : List ℤ) (k : ℕ) → length x ≡ length y → length x ≤ 64 → HasPositive x k → HasPositive y k → AreDisjoint x y → ⊥

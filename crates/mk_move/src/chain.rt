@@ -1,10 +1,12 @@
-ghost use Rattle.std.specs.Prelude.{◌≡◌, ◌<◌, ◌↔◌, length, All, IsTrue};
+ghost use Rattle.std.specs.Prelude.{◌≡◌, ◌≤◌, ◌<◌, ◌↔◌, length, All, IsTrue};
 ghost use Rattle.mk_model.specs.Vectors.{IsEntry, positive_part};
 ghost use Rattle.mk_model.specs.Reductions.{Divides, lcm};
 ghost use Rattle.mk_move.specs.Chains.{DividesBetween, lcm_on};
+ghost use Rattle.mk_move.specs.Masks.{IsMask};
 ghost use Rattle.mk_move.specs.MoveLists.{vectors_of};
 
 use crate::basis::Basis;
+use crate::masks::first_bit;
 use crate::moves::Move;
 use crate::side::Side;
 use mk_model::Entry;
@@ -30,7 +32,10 @@ fn divides_between(a: &Move, b: &Move, v: &Move) -> bool
     if v.mask(Side::Plus) & !both != 0 {
         return false;
     }
-    divides_lcm(v.entries(), a.entries(), b.entries())
+    if v.columns() > 64 {
+        return divides_lcm(v.entries(), a.entries(), b.entries());
+    }
+    divides_lcm_at(v.mask(Side::Plus), v.entries(), a.entries(), b.entries())
 }
 
 /// Does the positive part of the first divide the least common multiple of those of the others? All have as many columns.
@@ -46,6 +51,30 @@ fn divides_lcm(lead: &[Entry], a: &[Entry], b: &[Entry]) -> bool
         if *entry > lcm_entry(a[column], b[column]) {
             return false;
         }
+    }
+    true
+}
+
+/// Does the positive part of the first, of at most 64 columns, divide the least common multiple of those of the others? All
+/// have as many columns. It looks at the columns of the first's mask alone.
+fn divides_lcm_at(mask: u64, lead: &[Entry], a: &[Entry], b: &[Entry]) -> bool
+    requires few { length lead.now ≤ 64 }
+    requires mask { IsMask (positive_part lead.now) mask }
+    requires first { length lead.now ≡ length a.now }
+    requires second { length lead.now ≡ length b.now }
+    requires lead { All IsEntry lead.now }
+    requires of_first { All IsEntry a.now }
+    requires of_second { All IsEntry b.now }
+    ensures { IsTrue result ↔ Divides (positive_part lead.now) (lcm (positive_part a.now) (positive_part b.now)) }
+{
+    let mut left = mask;
+    while left != 0 {
+        let (column, others) = first_bit(left);
+        let place = column as usize;
+        if lead[place] > lcm_entry(a[place], b[place]) {
+            return false;
+        }
+        left = others;
     }
     true
 }

@@ -1,13 +1,17 @@
-ghost use Rattle.std.specs.Prelude.{◌≡◌, ◌≢◌, ◌↔◌, length, All, IsTrue, pos, neg_ℤ};
-ghost use Rattle.std.specs.Int.{int_max};
+ghost use Rattle.std.specs.Prelude.{◌≡◌, ◌≢◌, ◌↔◌, ◌≤◌, ◌/◌, ◌<ℤ◌, ◌≤ℤ◌, ℕ, length, All, IsTrue, pos};
 ghost use Rattle.mk_model.specs.Vectors.{IsEntry, positive_part, zeros};
 ghost use Rattle.mk_model.specs.Reductions.{Divides};
 ghost use Rattle.mk_model.specs.Pairs.{AreDisjoint};
+ghost use Rattle.mk_move.specs.Masks.{IsMask};
 ghost use Rattle.mk_move.specs.Sides.{part_of, entry_on, IsMostTimes};
 
+use crate::masks::first_bit;
 use crate::moves::Move;
 use crate::side::Side;
 use mk_model::{ENTRY_MAX, Entry};
+
+/// The largest number of 64 bits.
+const LARGEST_64: Entry = u64::MAX as Entry;
 
 /// Does the lead of `v` divide the part of `r` on that side? Both have as many columns. (Sturmfels, chapter 1)
 pub fn lead_divides(v: &Move, r: &Move, side: Side) -> bool
@@ -17,7 +21,10 @@ pub fn lead_divides(v: &Move, r: &Move, side: Side) -> bool
     if v.mask(Side::Plus) & !r.mask(side) != 0 {
         return false;
     }
-    divides_part(v.entries(), r.entries(), side)
+    if v.columns() > 64 {
+        return divides_part(v.entries(), r.entries(), side);
+    }
+    divides_part_at(v.mask(Side::Plus), v.entries(), r.entries(), side)
 }
 
 /// The greatest number of times that the lead of `v` divides the part of `r` on that side: at least 1. Both have as
@@ -29,7 +36,10 @@ pub fn times_dividing(v: &Move, r: &Move, side: Side) -> Entry
     ensures most { IsMostTimes (positive_part v.now.entries) (part_of side r.now.entries) result }
     ensures range { IsEntry result }
 {
-    most_times(v.entries(), r.entries(), side)
+    if v.columns() > 64 {
+        return most_times(v.entries(), r.entries(), side);
+    }
+    most_times_at(v.mask(Side::Plus), v.entries(), r.entries(), side)
 }
 
 /// Have the leads no column in common? Both moves have as many columns. (Sturmfels, chapter 1: coprime leading terms)
@@ -62,6 +72,27 @@ fn divides_part(lead: &[Entry], row: &[Entry], side: Side) -> bool
     true
 }
 
+/// Does the positive part of the one, of at most 64 columns, divide the part of the other? Both have as many columns. It
+/// looks at the columns of the positive part's mask alone.
+fn divides_part_at(mask: u64, lead: &[Entry], row: &[Entry], side: Side) -> bool
+    requires few { length lead.now ≤ 64 }
+    requires mask { IsMask (positive_part lead.now) mask }
+    requires columns { length lead.now ≡ length row.now }
+    requires lead { All IsEntry lead.now }
+    requires entries { All IsEntry row.now }
+    ensures { IsTrue result ↔ Divides (positive_part lead.now) (part_of side row.now) }
+{
+    let mut left = mask;
+    while left != 0 {
+        let (column, others) = first_bit(left);
+        if lead[column as usize] > side.entry_of(row[column as usize]) {
+            return false;
+        }
+        left = others;
+    }
+    true
+}
+
 /// The greatest number of times that the positive part of the one divides the part of the other.
 fn most_times(lead: &[Entry], row: &[Entry], side: Side) -> Entry
     requires columns { length lead.now ≡ length row.now }
@@ -79,6 +110,50 @@ fn most_times(lead: &[Entry], row: &[Entry], side: Side) -> Entry
         }
     }
     times
+}
+
+/// The greatest number of times that the positive part of the one, of at most 64 columns, divides the part of the other. It
+/// looks at the columns of the positive part's mask alone, until the number is 1.
+fn most_times_at(mask: u64, lead: &[Entry], row: &[Entry], side: Side) -> Entry
+    requires few { length lead.now ≤ 64 }
+    requires mask { IsMask (positive_part lead.now) mask }
+    requires columns { length lead.now ≡ length row.now }
+    requires lead { All IsEntry lead.now }
+    requires entries { All IsEntry row.now }
+    requires not_zero { positive_part lead.now ≢ zeros (length lead.now) }
+    requires divides { Divides (positive_part lead.now) (part_of side row.now) }
+    ensures most { IsMostTimes (positive_part lead.now) (part_of side row.now) result }
+    ensures range { IsEntry result }
+{
+    let mut times = ENTRY_MAX;
+    let mut left = mask;
+    while left != 0 && times > 1 {
+        let (column, others) = first_bit(left);
+        let part = side.entry_of(row[column as usize]);
+        times = times.min(quotient(part, lead[column as usize]));
+        left = others;
+    }
+    times
+}
+
+/// The quotient of two positive entries, the second no greater than the first. It divides only where it has to, and by 64
+/// bits where both have so few.
+fn quotient(dividend: Entry, divisor: Entry) -> Entry
+    requires positive { pos 0 <ℤ divisor }
+    requires no_greater { divisor ≤ℤ dividend }
+    requires range { IsEntry dividend }
+    ensures { (a b : ℕ) → dividend ≡ pos a → divisor ≡ pos b → result ≡ pos (a / b) }
+{
+    if divisor == 1 {
+        return dividend;
+    }
+    if dividend - divisor < divisor {
+        return 1;
+    }
+    if dividend <= LARGEST_64 {
+        return Entry::from(dividend as u64 / divisor as u64);
+    }
+    dividend / divisor
 }
 
 /// Is there no column where both are positive? Both have as many columns.

@@ -1,4 +1,4 @@
-use Rattle.std.proofs.Common.{◌≡◌, ◌+◌, pos, get_or, arith, rules, refl, sym, ◌∙◌, ap, subst, ◌<ℤ◌}
+use Rattle.std.proofs.Common.{◌<◌, ◌≡◌, ◌+◌, pos, get_or, arith, rules, refl, sym, ◌∙◌, ap, subst, ◌<ℤ◌}
 use mir.Val.{to_z, SFits}
 use borrow.Author.Differences.{up}
 use Rattle.std.specs.Int.{int_min}
@@ -39,7 +39,7 @@ loop-column-preserved c =
 
 pub returns-clause-range : goal.returns-clause-range
 returns-clause-range c =
-    times_range c.args.lead.now c.args.row.now c.args.side c.loop-column.column (to_z entry_width c.loop-column.times-bits) c.loop-column.invariant
+    times_range c.args.lead.now c.args.row.now c.args.side (λ n. n < c.loop-column.column) (to_z entry_width c.loop-column.times-bits) c.loop-column.invariant
 
 pub returns-clause-most : goal.returns-clause-most
 returns-clause-most c =

@@ -1,2 +1,4 @@
 pub mod Listings
 pub mod HeldLeads
+pub mod Blocks
+pub mod Searches

@@ -1,6 +1,10 @@
 //! A finder of leads by a tree over the columns of their supports.
 #![tactic(auto)]
 
+mod bits;
+mod block;
 mod held;
+mod node;
+mod support_tree;
 
-use held::HeldLead;
+pub use support_tree::SupportTree;

@@ -1,10 +1,8 @@
 -- What a block holds when a lead is put at its end, and when it is shared out.
-use Rattle.std.proofs.Common.{◌≡◌, ◌≢◌, ◌⊎◌, inl, inr, ℕ, ◌+◌, ◌<◌, ◌≤◌, List, [], ◌∷◌, ◌++◌, length, get_or, arith, refl, sym, ap, ◌∙◌, subst, ℤ, Some, slice_get, pos, ◌<ℤ◌}
+use Rattle.std.proofs.Common.{◌≡◌, ◌≢◌, ◌⊎◌, inl, inr, ℕ, ◌+◌, ◌<◌, ◌≤◌, List, [], ◌∷◌, ◌++◌, length, get_or, arith, refl, sym, ap, ◌∙◌, subst}
 use Rattle.std.specs.Int.{bit_at}
 use Rattle.std.proofs.lemmas.Bool.{cases_lt, cases_eq}
 use Rattle.std.proofs.lemmas.List.{length_push, get_or_push, get_or_append_left}
-use Rattle.mk_move.specs.Masks.{IsMask}
-use Rattle.mk_model.specs.Reductions.{Divides}
 use Rattle.mk_support.specs.declared.block.Block.{Block}
 use Rattle.mk_support.specs.Blocks.{StandsAt, HoldsIn, IsThis, IsShare, IsShareWith}
 

@@ -2,3 +2,4 @@ pub mod Listings
 pub mod HeldLeads
 pub mod Blocks
 pub mod Searches
+pub mod Trees

@@ -1,10 +1,12 @@
 -- Leads of a list that do not divide a part.
-use Rattle.std.proofs.Common.{◌≡◌, ◌≢◌, ◌∙◌, ℕ, ◌^◌, ◌<◌, List, length, get_or, All, arith, refl, sym, ap, subst, ℤ, Some, slice_get, w64, pos, ◌<ℤ◌}
+use Rattle.std.proofs.Common.{◌≡◌, ◌≢◌, ◌∙◌, ℕ, ◌^◌, ◌<◌, List, length, get_or, All, arith, refl, sym, subst, ℤ, Option, None, Some, IfNone, false, slice_get, w64, pos, ◌<ℤ◌}
 use Rattle.std.specs.Int.{bit_at, bit_not}
 use Rattle.std.specs.Int.RustNames.{bit_and}
 use Rattle.std.proofs.lemmas.List.Elements.{All-weaker}
 use Rattle.std.proofs.lemmas.Option.{slice_get_within, slice_get_read, get_or_from_slice_get}
 use Rattle.mk_model.specs.Reductions.{Divides}
+use Rattle.std.specs.Option.{is_some}
+use Rattle.std.proofs.lemmas.Bool.{false≢true}
 use Rattle.std.proofs.lemmas.Int.{ints}
 use Rattle.mk_model.specs.Vectors.{entry}
 use Rattle.mk_move.specs.Masks.{IsMask, HasPositive}
@@ -51,3 +53,12 @@ read_at leads place one placed is = slice_get_read leads (length leads) place on
 pub as_wide : (side : Side) (row : List ℤ) (leads : List (List ℤ)) → All (λ lead. length lead ≡ length row) leads → All (λ lead. length lead ≡ length (part_of side row)) leads
 as_wide side row leads h =
     All-weaker (λ (x : List ℤ). length x ≡ length row) (λ (x : List ℤ). length x ≡ length (part_of side row)) (λ x e. e ∙ sym (length-part_of side row)) leads h
+
+-- ---- a search that finds none
+pub none_then : {A B : Type 0} (found : Option ℕ) → (A → B) → IfNone found A → IfNone found B
+none_then None f h = f h
+none_then (Some place) f h = tt
+
+pub from_none : {A : Type 0} (found : Option ℕ) → false ≡ is_some found → IfNone found A → A
+from_none None e h = h
+from_none (Some place) e h = absurd (false≢true e)

@@ -1,14 +1,9 @@
-use Rattle.std.proofs.Common.{◌≡◌, ◌∙◌, ◌+◌, ◌<◌, refl, rules, arith, sym, ap, subst, length, get_or, List, ℕ, ℤ, slice_get, Some, All, ap}
+use Rattle.std.proofs.Common.{◌≡◌, rules, arith, sym, ap, length, get_or, List, ℕ, ℤ, All, ap}
 use borrow.Author.Count.{below_more}
-use Rattle.std.specs.Int.{bit_not, w64}
-use Rattle.std.specs.Int.RustNames.{bit_and}
 use Rattle.std.proofs.lemmas.Bool.{false≢true}
-use Rattle.std.proofs.lemmas.Option.{slice_get_within, slice_get_read, get_or_from_slice_get}
-use Rattle.mk_model.specs.Reductions.{Divides}
-use Rattle.mk_move.specs.Masks.{IsMask}
-use Rattle.mk_move.specs.Sides.{part_of, DividesAt}
-use Rattle.mk_move.proofs.Divisions.{length-part_of}
-use Rattle.mk_support.specs.Blocks.{StandsAt, HoldsIn, IsPlaced, IsRefused}
+use Rattle.std.proofs.lemmas.Option.{slice_get_within}
+use Rattle.mk_move.specs.Sides.{part_of}
+use Rattle.mk_support.specs.Blocks.{HoldsIn, IsPlaced, IsRefused}
 use Rattle.mk_support.proofs.Searches.{as_wide, holds_at, read_at, refused_by_mask, refused_itself}
 use Rattle.mk_support.proofs.block.Block.find.Goals as goal
 use Rattle.mk_support.proofs.block.Block.find.Goals.{In-loop-index, then-mask-part-eq0+else-divides, else-mask-part-eq0}

@@ -1,7 +1,7 @@
-use Rattle.std.proofs.Common.{◌≡◌, ◌≢◌, ◌+◌, ◌<◌, ◌∙◌, rules, arith, sym, ap, subst, length, get_or, List, ℕ, ◌∷◌, ◌++◌, []}
+use Rattle.std.proofs.Common.{◌≡◌, ◌<◌, ◌∙◌, arith, sym, ap, length, get_or, List, ℕ, ◌∷◌, ◌++◌, []}
 use Rattle.std.specs.Int.{bit_at}
 use Rattle.std.proofs.lemmas.List.{get_or_default}
-use Rattle.mk_support.proofs.Blocks.{IsShareUpTo, share_same, share_more, share_whole}
+use Rattle.mk_support.proofs.Blocks.{share_same, share_more}
 use Rattle.mk_support.proofs.block.Block.share.Goals as goal
 use Rattle.mk_support.proofs.block.Block.share.Goals.{then-bit_of-wanted+in_ok-push, else-bit_of-wanted}
 

@@ -1,7 +1,4 @@
-use Rattle.std.proofs.Common.{◌≡◌, ◌≢◌, ◌⊎◌, inl, inr, refl, ◌∙◌, rules, arith, sym, ap, subst, length, List, ℕ, ◌∷◌, ◌++◌, []}
-use Rattle.std.specs.Int.{bit_at}
-use Rattle.mk_support.specs.Blocks.{StandsAt, HoldsIn, IsThis, IsShare, IsShareWith}
-use Rattle.mk_support.specs.declared.block.Block.{Block}
+use Rattle.std.proofs.Common.{◌∙◌, sym}
 use Rattle.mk_support.proofs.Blocks.{with_this, without_this}
 use Rattle.mk_support.proofs.block.Block.share_with.Goals as goal
 use Rattle.mk_support.proofs.block.Block.share_with.Goals.{then-bit_of-wanted+in_ok-push, else-bit_of-wanted}

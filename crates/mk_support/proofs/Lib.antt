@@ -1,0 +1,5 @@
+pub mod Listings
+pub mod HeldLeads
+pub mod Blocks
+pub mod Searches
+pub mod Trees

@@ -1,0 +1,4 @@
+pub mod HeldLeads
+pub mod Blocks
+pub mod Nodes
+pub mod Trees

@@ -1,0 +1,37 @@
+-- The leads that a tree holds.
+use Rattle.std.specs.Prelude.{◌≡◌, ◌⊎◌, ℕ, ◌<◌, List, ℤ}
+use Rattle.std.specs.Int.{bit_at}
+use Rattle.mk_support.specs.declared.block.Block.{Block}
+use Rattle.mk_support.specs.declared.node.Node.{Node}
+use Rattle.mk_support.specs.declared.node.Node.TheVariants.{Leaf, Fork'}
+use Rattle.mk_support.specs.Blocks.{HoldsIn, IsPlaced, IsThis}
+
+-- the tree has this place with that mask
+abbrev pub Holds : Node → ℕ → ℕ → Type 0
+Holds (Leaf block) m p = HoldsIn block m p
+Holds (Fork' bit a with b without) m p = Holds with m p ⊎ Holds without m p
+
+-- each mask of the tree is that of the lead at its place
+abbrev pub ArePlaced : List (List ℤ) → Node → Type 0
+ArePlaced leads node = (m p : ℕ) → Holds node m p → IsPlaced leads m p
+
+-- on the first side of a fork each mask has its bit
+abbrev pub AreSplit : Node → Type 0
+AreSplit (Leaf block) = Unit {0}
+AreSplit (Fork' bit a with b without) = (bit < 64) × ((m p : ℕ) → Holds with m p → bit_at m bit ≡ 1) × AreSplit with × AreSplit without
+
+-- it has this place with that mask besides those of the other
+pub record Gains (old : Node) (mask place : ℕ) (new : Node) : Type 0 where
+  pub kept : (m p : ℕ) → Holds old m p → Holds new m p
+  pub there : Holds new mask place
+  pub others : (m p : ℕ) → Holds new m p → Holds old m p ⊎ IsThis mask place m p
+
+-- both have the same
+pub record IsSame (old new : Node) : Type 0 where
+  pub kept : (m p : ℕ) → Holds old m p → Holds new m p
+  pub others : (m p : ℕ) → Holds new m p → Holds old m p
+
+-- a tree of the places of a block and of another one
+pub record ForksTo (block : Block) (mask place : ℕ) (fork : Node) : Type 0 where
+  pub split : AreSplit fork
+  pub gains : Gains (Leaf block) mask place fork

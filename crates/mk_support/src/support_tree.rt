@@ -1,0 +1,62 @@
+ghost use Rattle.std.specs.Prelude.{◌≡◌, []};
+
+use crate::block::Block;
+use crate::held::HeldLead;
+use crate::node::Node;
+use mk_model::NoMemory;
+use mk_move::{Finder, Move, Side};
+use std::alloc::Global;
+use std::marker::Model;
+
+/// A finder that keeps a tree of the masks of its leads, and looks at a lead where its mask fits.
+/// (Sturmfels, chapter 1: division by leading terms)
+#[derive(Drop)]
+pub struct SupportTree {
+    leads: Vec<HeldLead>,
+    root: Node,
+}
+
+impl Model for SupportTree {
+    ghost use Rattle.std.specs.Prelude.{List, ℤ};
+    ghost use Rattle.mk_support.specs.Trees.{IsTree};
+
+    ghost Value = { List (List ℤ) };
+
+    ghost view = { λ t. t.leads.items };
+
+    ghost invariant = { λ t. IsTree t.leads.items t.root };
+}
+
+impl SupportTree {
+    /// A finder without leads.
+    pub fn new(alloc: Global) -> SupportTree
+        ensures { result ≡ [] }
+    {
+        SupportTree {
+            leads: Vec::new(alloc),
+            root: Node::Leaf(Block::new(alloc)),
+        }
+    }
+}
+
+impl Finder for SupportTree {
+    ghost leads = { λ t. t };
+
+    fn count(&self) -> u32 {
+        self.leads.len() as u32
+    }
+
+    fn insert(&mut self, m: &Move) -> Result<(), NoMemory> {
+        let alloc = *self.leads.allocator();
+        let lead = HeldLead::of(alloc, m)?;
+        self.leads.reserve(1)?;
+        let place = self.leads.len() as u32;
+        self.root.insert(alloc, m.mask(Side::Plus), place)?;
+        self.leads.push(lead)?;
+        Ok(())
+    }
+
+    fn find(&self, r: &Move, side: Side) -> Option<u32> {
+        self.root.find(&self.leads, r, side, r.mask(side))
+    }
+}

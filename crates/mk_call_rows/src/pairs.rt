@@ -3,10 +3,10 @@ ghost use Rattle.mk_model.specs.Vectors.{IsEntry};
 ghost use Rattle.mk_reduce.specs.Leads.{leads_of};
 
 use crate::shown::{assert_moves, assert_row, start_of, table_of};
-use mk_core::{drop_redundant, finder_of};
+use mk_core::{LeadFinder, drop_redundant, finder_of};
 use mk_model::Entry;
 use mk_move::{Basis, Finder, Move, OverflowAt, Side};
-use mk_reduce::{PlainFinder, Stop, Work, critical, reduce};
+use mk_reduce::{Stop, Work, critical, reduce};
 use std::alloc::AllocGlobal;
 use std::process::Abort;
 use std::test::Fail;
@@ -101,7 +101,7 @@ fn pairs_are_reduced(rt: HostRuntime) -> Result<(), Fail> {
 fn found_for(
     rt: &(impl Abort + AllocGlobal),
     basis: &Basis,
-    finder: &PlainFinder,
+    finder: &LeadFinder,
     row: &[Entry],
 ) -> Result<Option<u32>, Fail>
     requires columns { length row.now ≡ 4 }

@@ -18,7 +18,7 @@ use crate::work::{WorkFault, work_on};
 use mk_ledger::{Claim, Halt, Ledger, LedgerParts, PlaceFault};
 use mk_model::NoMemory;
 use mk_move::{Basis, Finder, Move};
-use mk_reduce::PlainFinder;
+use mk_support::SupportTree;
 use std::alloc::Global;
 
 /// Completes the start of a job: settles each pair of the basis, in their order, until every pair is joined below. A pair
@@ -68,11 +68,14 @@ enum Ending {
     Halted,
 }
 
+/// The finder of leads that completions, tails and the choice of the essential moves use.
+pub type LeadFinder = SupportTree;
+
 /// A finder of the leads of a basis, in their order.
-pub fn finder_of(alloc: Global, basis: &Basis) -> Result<PlainFinder, NoMemory>
+pub fn finder_of(alloc: Global, basis: &Basis) -> Result<LeadFinder, NoMemory>
     ensures { IfOk result (λ finder. finder ≡ leads_of basis.now.moves) }
 {
-    let mut finder = PlainFinder::new(alloc);
+    let mut finder = LeadFinder::new(alloc);
     for place in 0..basis.len() {
         finder.insert(basis.move_at(place))?;
     }
@@ -83,7 +86,7 @@ pub fn finder_of(alloc: Global, basis: &Basis) -> Result<PlainFinder, NoMemory>
 fn settle_pairs(
     alloc: Global,
     ledger: &mut Ledger,
-    finder: &mut PlainFinder,
+    finder: &mut LeadFinder,
 ) -> Result<Ending, NoMemory>
     requires unclaimed { NoneClaims ledger.old.state }
     requires leads { finder.old ≡ leads_of ledger.old.basis.moves }
@@ -121,7 +124,7 @@ fn next_pair(ledger: &mut Ledger) -> Result<(u32, u32), Ending>
 fn settle_pair(
     alloc: Global,
     ledger: &mut Ledger,
-    finder: &mut PlainFinder,
+    finder: &mut LeadFinder,
     i: u32,
     j: u32,
 ) -> Result<(), NoMemory>
@@ -141,7 +144,7 @@ fn settle_pair(
 fn reduce_pair(
     alloc: Global,
     ledger: &mut Ledger,
-    finder: &mut PlainFinder,
+    finder: &mut LeadFinder,
     i: u32,
     j: u32,
 ) -> Result<(), NoMemory>
@@ -165,7 +168,7 @@ fn reduce_pair(
 /// Settles the claimed pair by its remainder, oriented, and gives the finder its lead; or halts where the basis is full.
 fn place_remainder(
     ledger: &mut Ledger,
-    finder: &mut PlainFinder,
+    finder: &mut LeadFinder,
     mut remainder: Move,
 ) -> Result<(), NoMemory>
     requires remainder { IsRemainderOfClaim ledger.old remainder }

@@ -10,7 +10,7 @@ mod skipping;
 mod work;
 
 pub use completed::Completed;
-pub use completion::{complete_alone, finder_of, finish_alone};
+pub use completion::{LeadFinder, complete_alone, finder_of, finish_alone};
 pub use dropping::drop_redundant;
 pub use mk_ledger::{Journal, JournalEntry, Kind};
 pub use phase::{Job, Phase, Stopped};

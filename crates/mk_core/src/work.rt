@@ -6,9 +6,10 @@ ghost use Rattle.mk_move.specs.MoveLists.{vectors_of};
 ghost use Rattle.mk_reduce.specs.Leads.{leads_of};
 ghost use Rattle.mk_core.specs.Remainders.{IsRemainder, IsWorkFault, fault_for};
 
+use crate::completion::LeadFinder;
 use mk_ledger::OverflowStop;
 use mk_move::{Basis, Move};
-use mk_reduce::{PlainFinder, Stop, critical, reduce};
+use mk_reduce::{Stop, critical, reduce};
 use std::alloc::Global;
 
 /// Why the work on a pair stops: want of memory, or an entry that leaves its range.
@@ -23,7 +24,7 @@ pub enum WorkFault {
 pub fn work_on(
     alloc: Global,
     basis: &Basis,
-    finder: &PlainFinder,
+    finder: &LeadFinder,
     i: u32,
     j: u32,
 ) -> Result<Option<Move>, WorkFault>

@@ -10,16 +10,16 @@ ghost use Rattle.mk_inter.specs.Tails.{IsTailFault};
 ghost use Rattle.mk_inter.specs.TailSteps.{HasTailReduced, IsTailStep, IsTimesAdded, IsReducedFrom};
 
 use crate::tails::TailFault;
+use mk_core::LeadFinder;
 use mk_model::Entry;
 use mk_move::{Basis, Finder, Move, Side, StepFault, subtract_times, times_dividing};
-use mk_reduce::PlainFinder;
 use std::alloc::Global;
 
 /// The move of an index of a saturated basis, with its tail reduced until no lead divides it.
 pub(crate) fn reduce_tail(
     alloc: Global,
     basis: &Basis,
-    finder: &PlainFinder,
+    finder: &LeadFinder,
     index: u32,
 ) -> Result<Move, TailFault>
     requires saturated { IsSaturated basis.now }

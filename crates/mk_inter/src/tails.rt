@@ -10,10 +10,9 @@ ghost use Rattle.mk_inter.specs.TailSteps.{IsReducedFrom};
 
 use crate::sorting::sort_moves;
 use crate::tail::reduce_tail;
-use mk_core::{SaturatedBasis, finder_of};
+use mk_core::{LeadFinder, SaturatedBasis, finder_of};
 use mk_model::NoMemory;
 use mk_move::{Basis, Move, OverflowAt};
-use mk_reduce::PlainFinder;
 use std::alloc::{AllocError, AllocFailed, Global};
 use std::marker::Model;
 
@@ -108,7 +107,7 @@ pub fn reduce_tails(alloc: Global, basis: &SaturatedBasis) -> Result<ReducedBasi
 }
 
 /// The moves of a saturated basis, each with its tail reduced, in their order.
-fn all_tails(alloc: Global, basis: &Basis, finder: &PlainFinder) -> Result<Vec<Move>, TailFault>
+fn all_tails(alloc: Global, basis: &Basis, finder: &LeadFinder) -> Result<Vec<Move>, TailFault>
     requires saturated { IsSaturated basis.now }
     requires leads { finder.now ≡ leads_of basis.now.moves }
     ensures reduced { IfOk result (λ tails. AllZip (IsReducedFrom basis.now) (vectors_of basis.now.moves) tails.items) }

@@ -1,14 +1,14 @@
+use mk_core::LeadFinder;
 use mk_model::NoMemory;
 use mk_move::{Basis, Finder};
-use mk_reduce::PlainFinder;
 use std::alloc::Global;
 use std::marker::Model;
 
 /// The first moves of a basis, with a finder of their leads.
-#[derive(Debug, Drop)]
+#[derive(Drop)]
 pub(crate) struct Lower {
     basis: Basis,
-    finder: PlainFinder,
+    finder: LeadFinder,
 }
 
 impl Model for Lower {
@@ -38,7 +38,7 @@ impl Lower {
         let grading = basis.grading().try_copy()?;
         Ok(Lower {
             basis: Basis::new(alloc, priority, grading),
-            finder: PlainFinder::new(alloc),
+            finder: LeadFinder::new(alloc),
         })
     }
 
@@ -57,7 +57,7 @@ impl Lower {
     }
 
     /// The finder of their leads.
-    pub(crate) fn finder(&self) -> &PlainFinder
+    pub(crate) fn finder(&self) -> &LeadFinder
         ensures { result.now ≡ leads_of self.now.moves }
     {
         &self.finder

@@ -8,3 +8,6 @@ mod node;
 mod support_tree;
 
 pub use support_tree::SupportTree;
+
+#[cfg(test)]
+mod tests;

@@ -13,7 +13,7 @@ use std::alloc::Global;
 
 /// A tree of leads: a leaf has a block of them; a fork has a bit, and on its two sides the leads whose masks have that
 /// bit, and the others.
-#[derive(Drop)]
+#[derive(Debug, Drop)]
 pub(crate) enum Node {
     Leaf(Block),
     Fork(u32, Box<Node>, Box<Node>),

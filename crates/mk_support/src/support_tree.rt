@@ -10,7 +10,7 @@ use std::marker::Model;
 
 /// A finder that keeps a tree of the masks of its leads, and looks at a lead where its mask fits.
 /// (Sturmfels, chapter 1: division by leading terms)
-#[derive(Drop)]
+#[derive(Debug, Drop)]
 pub struct SupportTree {
     leads: Vec<HeldLead>,
     root: Node,

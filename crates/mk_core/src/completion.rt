@@ -93,9 +93,10 @@ fn settle_pairs(
     ensures goes_on { OnOk result (ContinuesLedger ledger.old ledger.new) }
     ensures ending { IfOk result (EndsBy ledger.new.state) }
 {
+    let mut last = None;
     loop {
         match next_pair(ledger) {
-            Ok((i, j)) => settle_pair(alloc, ledger, finder, i, j)?,
+            Ok((i, j)) => settle_pair(alloc, ledger, finder, &mut last, i, j)?,
             Err(ending) => return Ok(ending),
         }
     }
@@ -120,11 +121,13 @@ fn next_pair(ledger: &mut Ledger) -> Result<(u32, u32), Ending>
 }
 
 /// Settles the pair that the worker has claimed: without reduction, where its leads have no column in common or a third move
-/// settles it, and else by its remainder. Or halts where an entry leaves its range or the basis is full.
+/// settles it, and else by its remainder. Or halts where an entry leaves its range or the basis is full. `last` is the third
+/// move that served last.
 fn settle_pair(
     alloc: Global,
     ledger: &mut Ledger,
     finder: &mut LeadFinder,
+    last: &mut Option<u32>,
     i: u32,
     j: u32,
 ) -> Result<(), NoMemory>
@@ -133,7 +136,7 @@ fn settle_pair(
     ensures goes_on { OnOk result (GoesOnUnclaimed ledger.old ledger.new) }
     ensures leads { OnOk result (finder.new ≡ leads_of ledger.new.basis.moves) }
 {
-    if skip_pair(ledger, i, j)? {
+    if skip_pair(ledger, last, i, j)? {
         return Ok(());
     }
     reduce_pair(alloc, ledger, finder, i, j)

@@ -46,8 +46,9 @@ pub fn chain_candidates(basis: &Basis, i: u32, j: u32, from: u32) -> Option<u32>
     None
 }
 
-/// Is the pair of two places settled by a third move?
-fn is_chain<S: SettledPairs>(basis: &Basis, settled: &S, i: u32, j: u32, k: u32) -> bool
+/// Is the pair of two places settled by this third move? Its lead divides the least common multiple of the two leads, and its
+/// pairs with both are settled. It takes no memory. (Sturmfels, chapter 1)
+pub fn is_chain<S: SettledPairs>(basis: &Basis, settled: &S, i: u32, j: u32, k: u32) -> bool
     requires ordered { i < j }
     requires within { j < length basis.now.moves }
     requires third { k < length basis.now.moves }

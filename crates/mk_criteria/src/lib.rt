@@ -3,4 +3,4 @@
 
 mod chains;
 
-pub use chains::{chain_candidates, find_chain};
+pub use chains::{chain_candidates, find_chain, is_chain};

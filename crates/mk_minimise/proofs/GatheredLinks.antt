@@ -1,8 +1,8 @@
 -- The links of a weight, gathered from one pair after another.
 use Rattle.std.proofs.Common.{◌≡◌, ◌⊎◌, inl, inr, ℕ, ◌<◌, List, [], ◌∷◌, ◌++◌, length, Option, None, Some, ℤ, pos, All, Contains, arith, ap, refl, sym, ◌∙◌, subst, ⊎_elim}
 use Rattle.std.proofs.lemmas.Int.{ints}
-use Rattle.std.proofs.lemmas.List.{map-append}
-use Rattle.std.proofs.lemmas.List.Elements.{All-nil, All-push, All-weaker, All-contains, Contains-append_left, Contains-append_right, Contains-append_cases, Contains-push}
+use Rattle.std.proofs.lemmas.List.{map-append, get_or_default}
+use Rattle.std.proofs.lemmas.List.Elements.{All-nil, All-push, All-weaker, All-contains, Contains-append_left, Contains-append_right, Contains-append_cases, Contains-push, Contains-get_or}
 use Rattle.mk_model.specs.CoreStates.{move_at, pair_of, difference}
 use Rattle.mk_model.specs.Lattices.{lattice_of, HasGrading}
 use Rattle.mk_model.specs.Orders.{IsOriented, standard, lead}
@@ -19,23 +19,22 @@ use Rattle.mk_model.proofs.Reducts.{joined_below_weaker, joined_by_disjoint, red
 use Rattle.mk_move.specs.Moves.{Weighed}
 use Rattle.mk_move.specs.MoveLists.{BasisView, BelongsTo, vectors_of}
 use Rattle.mk_move.specs.declared.side.Side.TheVariants.{Plus, Minus}
-use Rattle.mk_reduce.proofs.Beginnings.{length-vectors_of}
 use Rattle.mk_inter.specs.Tails.{IsReducedList}
 use Rattle.mk_minimise.specs.declared.overlaps.Overlap.{Overlap}
 use Rattle.mk_minimise.specs.Links.{AreLower, IsLink, AreLinks}
 use Rattle.mk_minimise.specs.LinkSteps.{IsLeftOf, IsAddedLeft, IsAdded}
-use Rattle.mk_minimise.specs.Overlaps.{overlap_at, IsOverlap, IsListed, AreOverlaps, AreOfWeight}
+use Rattle.mk_minimise.specs.Overlaps.{overlap_at, IsOverlap, IsListed, AreOverlaps}
 use Rattle.mk_core.specs.Remainders.{IsNormalRest, IsRemainder}
 use Rattle.mk_minimise.specs.Stages.{weight_at, IsFront, TellsLeast}
 use Rattle.mk_minimise.proofs.LinkLaws.{link_of_pair, link_negated}
 use Rattle.mk_minimise.proofs.LeastLeads.{PairsJoined, both_oriented, lead_is_first, lead_steps_lighter}
 use Rattle.mk_minimise.proofs.LinkChains.{something, steps_reduce, chain, links_more, pair_by_zero, pair_by_link}
-use Rattle.mk_minimise.proofs.LowerFronts.{list_grading, member_at, lower_at, lower_has, lower_place, lower_part, overlap_is_lower, pair_weighs}
+use Rattle.mk_minimise.proofs.LowerFronts.{list_grading, lower_part}
 
 -- the pair's moves are joined below, by lower moves and links
 abbrev pub PairJoined : BasisView → BasisView → List Weighed → Overlap → Type 0
 PairJoined basis lower links pair =
-    JoinedBelow (length basis.grading) (standard (length basis.grading)) (vectors_of lower.moves ++ vectors_of links) (move_at (vectors_of basis.moves) pair.first) (move_at (vectors_of basis.moves) pair.second)
+    JoinedBelow (length basis.grading) (standard (length basis.grading)) (vectors_of lower.moves ++ vectors_of links) (move_at (vectors_of lower.moves) pair.first) (move_at (vectors_of lower.moves) pair.second)
 
 -- links of the weight that follows the lower moves, with these pairs joined below
 pub record AreGathered (basis lower : BasisView) (pairs : List Overlap) (links : List Weighed) : Type 0 where
@@ -76,29 +75,21 @@ module _ (basis : BasisView) (h : IsReducedList basis) (lower : BasisView) (fron
   joined_more : (links after : List Weighed) → ((v : List ℤ) → Contains (vectors_of links) v → Contains (vectors_of after) v) → (pairs : List Overlap) → All (PairJoined basis lower links) pairs → All (PairJoined basis lower after) pairs
   joined_more links after f pairs each =
       All-weaker (PairJoined basis lower links) (PairJoined basis lower after)
-      (λ pair j. joined_below_weaker n (standard n) (L ++ vectors_of links) (L ++ vectors_of after) (move_at rows pair.first) (move_at rows pair.second)
+      (λ pair j. joined_below_weaker n (standard n) (L ++ vectors_of links) (L ++ vectors_of after) (move_at L pair.first) (move_at L pair.second)
       (λ v c. ⊎_elim (Contains-append_left L (vectors_of after) v) (λ d. Contains-append_right L (vectors_of after) v (f v d)) (Contains-append_cases L (vectors_of links) v c)) j) pairs each
 
-  module _ (pairs : List Overlap) (links : List Weighed) (gathered : AreGathered basis lower pairs links) (pair : Overlap) (o : IsOverlap w rows pair) (weighs : pair.weight ≡ bound) where
+  module _ (pairs : List Overlap) (links : List Weighed) (gathered : AreGathered basis lower pairs links) (pair : Overlap) (o : IsOverlap w L bound pair) where
     abbrev a : List ℤ
-    a = move_at rows pair.first
+    a = move_at L pair.first
 
     abbrev b : List ℤ
-    b = move_at rows pair.second
-
-    second_lower : pair.second < length lower.moves
-    second_lower = overlap_is_lower basis h lower front more pair o weighs
+    b = move_at L pair.second
 
     of_a : Contains L a
-    of_a = lower_has basis h lower front more pair.first (omega (arith, o.ordered, second_lower))
+    of_a = Contains-get_or L pair.first [] (omega (arith, o.ordered, o.within))
 
     of_b : Contains L b
-    of_b = lower_has basis h lower front more pair.second second_lower
-
-    difference_is : difference L (pair_of pair.first pair.second) ≡ subtract b a
-    difference_is =
-        ap (λ x. subtract x (move_at L pair.first)) (lower_at basis h lower front more pair.second second_lower)
-        ∙ ap (subtract b) (lower_at basis h lower front more pair.first (omega (arith, o.ordered, second_lower)))
+    of_b = Contains-get_or L pair.second [] o.within
 
     -- a pair that leaves nothing
     pub gather_none : IsRemainder lower (pair_of pair.first pair.second) None → AreGathered basis lower (pairs ++ pair ∷ []) links
@@ -107,16 +98,16 @@ module _ (basis : BasisView) (h : IsReducedList basis) (lower : BasisView) (fron
       linked = gathered.linked;
       joined = All-push (PairJoined basis lower links) pairs pair gathered.joined
           (pair_by_zero g h.reduced part gathered.linked a b (zeros n) (zeros n) of_a of_b
-          (subst (λ x. Reduct L x (zeros n)) difference_is (subst (λ (v : List ℤ). Reduct L (difference L (pair_of pair.first pair.second)) (zeros (length v))) front.grading reduct)) here refl);
+          (subst (λ (v : List ℤ). Reduct L (difference L (pair_of pair.first pair.second)) (zeros (length v))) front.grading reduct) here refl);
     }
 
     module _ (m : Weighed) (rest : IsNormalRest lower (pair_of pair.first pair.second) m) where
       reduct : Reduct L (subtract b a) m.entries
-      reduct = subst (λ x. Reduct L x m.entries) difference_is rest.reduct
+      reduct = rest.reduct
 
       link : IsLink n rows L w bound m.entries
       link =
-          link_of_pair g h.reduced part a b m.entries of_a of_b (pair_weighs basis h lower front more pair o weighs) reduct
+          link_of_pair g h.reduced part a b m.entries of_a of_b o.weighs reduct
           (something m.entries rest.normal.not_zero) rest.normal.positive rest.normal.negative
 
       -- the links leave nothing of what it leaves
@@ -184,47 +175,47 @@ module _ (basis : BasisView) (h : IsReducedList basis) (lower : BasisView) (fron
           cases (Some left) leaves (new, e, belongs, sign) = subst (AreGathered basis lower (pairs ++ pair ∷ [])) (sym e) (gather_new left new leaves belongs sign)
 
   -- ---- all pairs of the weight
-  module _ (overlaps pairs : List Overlap) (all : AreOverlaps w rows overlaps) (of_weight : AreOfWeight overlaps bound pairs) (links : List Weighed) (gathered : AreGathered basis lower pairs links) where
+  module _ (pairs : List Overlap) (all : AreOverlaps w L bound pairs) (links : List Weighed) (gathered : AreGathered basis lower pairs links) where
     abbrev Below : List ℤ → List ℤ → Type 0
     Below = JoinedBelow n (standard n) (L ++ vectors_of links)
 
     abbrev at : ℕ → List ℤ
-    at = move_at rows
+    at = move_at L
 
     both_has : (v : List ℤ) → Contains L v → Contains (L ++ vectors_of links) v
     both_has v c = Contains-append_left L (vectors_of links) v c
 
-    in_order : (i j : ℕ) → i < j → j < length lower.moves → weight w (lcm (lead (at i)) (lead (at j))) ≡ bound → Below (at i) (at j)
-    in_order i j l k e = go (all.every i j l (omega (arith, k, more, length-vectors_of basis.moves)))
+    at_has : (k : ℕ) → k < length L → Contains (L ++ vectors_of links) (at k)
+    at_has k l = both_has (at k) (Contains-get_or L k [] l)
+
+    in_order : (i j : ℕ) → i < j → j < length L → weight w (lcm (lead (at i)) (lead (at j))) ≡ bound → Below (at i) (at j)
+    in_order i j l k e = go (all.every i j l k)
       where
-        has_i : Contains L (at i)
-        has_i = lower_has basis h lower front more i (omega (arith, l, k))
-
-        has_j : Contains L (at j)
-        has_j = lower_has basis h lower front more j k
-
-        go : IsListed w rows overlaps i j → Below (at i) (at j)
-        go (inl d) = joined_by_disjoint (both_oriented g h.reduced part gathered.linked) (at i) (at j) (both_has (at i) has_i) (both_has (at j) has_j) d
-        go (inr (inl heavy)) = absurd (omega (arith, ints, heavy (at (length lower.moves)) (member_at basis h (length lower.moves) more), e))
-        go (inr (inr c)) = All-contains (PairJoined basis lower links) pairs (overlap_at w rows i j) gathered.joined (of_weight.every (overlap_at w rows i j) c e)
+        go : IsListed w L bound pairs i j → Below (at i) (at j)
+        go (inl d) = joined_by_disjoint (both_oriented g h.reduced part gathered.linked) (at i) (at j) (at_has i (omega (arith, l, k))) (at_has j k) d
+        go (inr (inl other)) = absurd (other e)
+        go (inr (inr c)) = All-contains (PairJoined basis lower links) pairs (overlap_at i j) gathered.joined c
 
     pairs_joined : PairsJoined n L w bound (vectors_of links)
-    pairs_joined u v c d e = go (lower_place basis h lower front more u c) (lower_place basis h lower front more v d)
+    pairs_joined u v c d e = go (place u c) (place v d)
       where
         o : AreOrientedMoves (lattice_of n rows w) (standard n) (L ++ vectors_of links)
         o = both_oriented g h.reduced part gathered.linked
 
+        place : (m : List ℤ) → Contains L m → (k : ℕ) × (k < length L) × (at k ≡ m)
+        place m (k, l, e) = (k, l, get_or_default L k [] m l ∙ e)
+
         cases : (i j : ℕ) → (i < j) ⊎ (j < i) ⊎ (i ≡ j)
         cases i j = grind arith
 
-        places : (i j : ℕ) → i < length lower.moves → j < length lower.moves → at i ≡ u → at j ≡ v → (i < j) ⊎ (j < i) ⊎ (i ≡ j) → Below u v
+        places : (i j : ℕ) → i < length L → j < length L → at i ≡ u → at j ≡ v → (i < j) ⊎ (j < i) ⊎ (i ≡ j) → Below u v
         places i j k l f t (inl s) = rw (f, t) at (in_order i j s l (ap (λ x. weight w (lcm (lead x) (lead (at j)))) f ∙ ap (λ x. weight w (lcm (lead u) (lead x))) t ∙ e))
         places i j k l f t (inr (inl s)) =
             let back = ap (λ x. weight w (lcm (lead x) (lead (at i)))) t ∙ ap (λ x. weight w (lcm (lead v) (lead x))) f ∙ ap (weight w) (lcm-comm (lead v) (lead u)) ∙ e in
             JoinedBelow-swap o v u (rw (t, f) at (in_order j i s k back))
         places i j k l f t (inr (inr s)) = subst (Below u) (sym f ∙ ap at s ∙ t) (JoinedBelow-same o u (both_has u c))
 
-        go : (i : ℕ) × (i < length lower.moves) × (at i ≡ u) → (j : ℕ) × (j < length lower.moves) × (at j ≡ v) → Below u v
+        go : (i : ℕ) × (i < length L) × (at i ≡ u) → (j : ℕ) × (j < length L) × (at j ≡ v) → Below u v
         go (i, k, f) (j, l, t) = places i j k l f t (cases i j)
 
     pub links_tell : TellsLeast n w rows bound (vectors_of links)

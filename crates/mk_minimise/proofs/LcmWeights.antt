@@ -1,13 +1,18 @@
 -- The least common multiple of leads, as the code has it at a column.
-use Rattle.std.proofs.Common.{◌≡◌, ℕ, ◌<◌, List, length, ℤ, pos, All, arith, ap, sym, ◌∙◌, subst}
+use Rattle.std.proofs.Common.{◌≡◌, ◌⊎◌, ℕ, ◌<◌, List, [], length, ℤ, pos, ◌+ℤ◌, ◌≤ℤ◌, ◌<ℤ◌, All, arith, ap, refl, sym, ◌∙◌, subst}
 use Rattle.std.specs.Int.{int_max}
 use Rattle.std.proofs.lemmas.Int.{ints, int_max_is}
 use Rattle.std.proofs.lemmas.List.{get_or_default}
-use Rattle.mk_model.specs.Vectors.{entry, IsEntry}
+use Rattle.std.proofs.lemmas.List.Elements.{All-nil}
+use Rattle.mk_model.specs.Vectors.{entry, add, weight, IsEntry, IsPoint}
+use Rattle.mk_model.specs.Lattices.{lattice_of, HasGrading}
 use Rattle.mk_model.specs.Orders.{lead}
-use Rattle.mk_model.specs.Reductions.{lcm}
-use Rattle.mk_model.proofs.VectorAlgebra.{lengths, entry-positive_part}
-use Rattle.mk_model.proofs.Divisors.{length-lcm, entry-lcm}
+use Rattle.mk_model.specs.Pairs.{AreDisjoint}
+use Rattle.mk_model.specs.Reductions.{lcm, Divides}
+use Rattle.mk_model.proofs.VectorAlgebra.{lengths, add_at, entry-add, entry-positive_part, weight-add, IsPoint-add, IsPoint-positive_part}
+use Rattle.mk_model.proofs.Divisors.{length-lcm, entry-lcm, lcm_divides, IsPoint-lcm}
+use Rattle.mk_model.proofs.DivisorWeights.{proper_divisor_lighter}
+use Rattle.mk_move.specs.Gradings.{AreWeights}
 use Rattle.mk_move.proofs.Entries.{as_entry, entry_read}
 
 max_entry : (a b : ℤ) → IsEntry a → IsEntry b → IsEntry (int_max a b)
@@ -45,3 +50,38 @@ larger_read x y c r s t u h k of_r of_s of_t of_u =
     of_u ∙ ap (λ z. int_max (as_entry z) (pos 0)) larger ∙ ap (λ z. int_max z (pos 0)) (entry_read (int_max a b) (max_entry a b h k)) ∙ nested a b ∙ sym (lcm_entry x y c) in
     let in_range : IsEntry (entry (lcm (lead x) (lead y)) c) = subst IsEntry (sym (lcm_entry x y c)) (max_entry (int_max a (pos 0)) (int_max b (pos 0)) (max_entry a (pos 0) h zero_entry) (max_entry b (pos 0) k zero_entry)) in
     ap (λ z. as_entry z) value ∙ entry_read (entry (lcm (lead x) (lead y)) c) in_range
+
+-- ---- leads that overlap
+one_is_zero : (a b : ℤ) → pos 0 ≤ℤ a → pos 0 ≤ℤ b → int_max a b ≡ a +ℤ b → (a ≡ pos 0) ⊎ (b ≡ pos 0)
+one_is_zero a b h k e = grind (arith, ints, int_max_is a b)
+
+-- where leads overlap, their least common multiple is lighter than both together
+pub overlap_lighter : (w x y : List ℤ) → AreWeights w → length x ≡ length w → length y ≡ length w → ¬ (AreDisjoint (lead x) (lead y)) → weight w (lcm (lead x) (lead y)) <ℤ (weight w (lead x) +ℤ weight w (lead y))
+overlap_lighter w x y weights of_x of_y overlap =
+    subst (λ z. weight w (lcm (lead x) (lead y)) <ℤ z) (weight-add w (lead x) (lead y))
+    (proper_divisor_lighter g (add (lead x) (lead y)) (lcm (lead x) (lead y)) (IsPoint-add p q) (IsPoint-lcm p q) (lcm_divides first second) (λ e. overlap (disjoint e)))
+  where
+    g : HasGrading (lattice_of (length w) [] w)
+    g = record {
+      columns = refl;
+      positive = λ c l. (weights.each c (pos 0) l).0;
+      rows_columns = All-nil (λ row. length row ≡ length w);
+      rows_weight = All-nil (λ row. weight w row ≡ pos 0);
+    }
+
+    p : IsPoint (length w) (lead x)
+    p = IsPoint-positive_part x of_x
+
+    q : IsPoint (length w) (lead y)
+    q = IsPoint-positive_part y of_y
+
+    first : Divides (lead x) (add (lead x) (lead y))
+    first = record { entries = λ c. omega (arith, ints, add_at (lead x) (lead y) c, q.nonnegative c) }
+
+    second : Divides (lead y) (add (lead x) (lead y))
+    second = record { entries = λ c. omega (arith, ints, add_at (lead x) (lead y) c, p.nonnegative c) }
+
+    disjoint : lcm (lead x) (lead y) ≡ add (lead x) (lead y) → AreDisjoint (lead x) (lead y)
+    disjoint e c =
+        one_is_zero (entry (lead x) c) (entry (lead y) c) (p.nonnegative c) (q.nonnegative c)
+        (sym (entry-lcm (lead x) (lead y) c) ∙ ap (λ v. entry v c) e ∙ entry-add (lead x) (lead y) c)

@@ -2,7 +2,6 @@ pub mod Peaks
 pub mod LowerMoves
 pub mod LinkLaws
 pub mod LeastLeads
-pub mod WeightOrder
 pub mod LcmWeights
 pub mod OverlapLists
 pub mod LinkChains

@@ -1,21 +1,16 @@
 -- The first moves of a reduced basis, up to a place at which the weight rises: they are the lower moves of that weight.
-use Rattle.std.proofs.Common.{◌≡◌, ◌⊎◌, inl, inr, ℕ, ◌+◌, ◌≤◌, ◌<◌, ◌^◌, List, [], ◌∷◌, ◌++◌, length, take, get_or, slice_get, Some, ℤ, ◌<ℤ◌, All, Contains, arith, ap, sym, ◌∙◌, subst, ⊎_elim}
+use Rattle.std.proofs.Common.{◌≡◌, ◌⊎◌, inl, inr, ℕ, ◌+◌, ◌≤◌, ◌<◌, ◌^◌, List, [], ◌∷◌, ◌++◌, length, take, get_or, slice_get, Some, ℤ, ◌<ℤ◌, All, Contains, arith, ap, sym, ◌∙◌, subst}
 use Rattle.std.proofs.lemmas.Bool.{cases_lt}
 use Rattle.std.proofs.lemmas.Int.{ints}
 use Rattle.std.proofs.lemmas.List.{get_or_default, get_or-take, length-take, take-map, take_more, map-append}
 use Rattle.std.proofs.lemmas.List.Elements.{All-take, Contains-get_or}
 use Rattle.std.proofs.lemmas.Option.{get_or_from_slice_get, slice_get_within}
-use Rattle.mk_model.specs.CoreStates.{move_at, IsPairOf, pair_of}
+use Rattle.mk_model.specs.CoreStates.{move_at}
 use Rattle.mk_model.specs.Lattices.{HasGrading}
-use Rattle.mk_model.specs.Orders.{lead, ComesBefore}
-use Rattle.mk_model.specs.Reductions.{lcm, Divides}
-use Rattle.mk_model.specs.ReducedBases.{IsReducedMove}
-use Rattle.mk_model.specs.Vectors.{weight, IsPoint}
-use Rattle.mk_model.proofs.OrderLaws.{ComesBefore-irreflexive}
-use Rattle.mk_model.proofs.MoveLaws.{IsMove-lead}
-use Rattle.mk_model.proofs.Divisors.{IsPoint-lcm, Divides-lcm_first, Divides-lcm_second}
-use Rattle.mk_model.proofs.DivisorWeights.{divisor_cases}
-use Rattle.mk_model.proofs.ReducedLaws.{reduced_ends, member_reduced, member_move}
+use Rattle.mk_model.specs.Orders.{lead}
+use Rattle.mk_model.specs.Pairs.{AreDisjoint}
+use Rattle.mk_model.specs.Reductions.{lcm}
+use Rattle.mk_model.specs.Vectors.{weight}
 use Rattle.mk_move.specs.Moves.{Weighed}
 use Rattle.mk_move.specs.MoveLists.{lattice_spanned, BasisView, BelongsTo, IsBasis, vectors_of}
 use Rattle.mk_reduce.specs.Leads.{leads_of}
@@ -23,12 +18,10 @@ use Rattle.mk_reduce.proofs.Beginnings.{length-vectors_of}
 use Rattle.mk_inter.specs.Tails.{IsReducedList}
 use Rattle.mk_inter.proofs.Bases.{grading_of}
 use Rattle.mk_inter.proofs.FoundLeads.{leads_columns, length-leads_of}
-use Rattle.mk_inter.proofs.LeastTails.{reduced_once}
 use Rattle.mk_minimise.specs.declared.overlaps.Overlap.{Overlap}
 use Rattle.mk_minimise.specs.Links.{AreLower}
 use Rattle.mk_minimise.specs.Overlaps.{IsOverlap}
 use Rattle.mk_minimise.specs.Stages.{weight_at, IsWeightCut, IsFront}
-use Rattle.mk_minimise.proofs.LowerMoves.{lead_not_least}
 use Rattle.mk_minimise.proofs.RunsOfWeight.{weights_rise}
 
 -- ---- the moves put one after another
@@ -126,55 +119,24 @@ module _ (basis : BasisView) (h : IsReducedList basis) where
             go (inl s) = subst (Contains (vectors_of lower.moves)) same (lower_has k s)
             go (inr s) = absurd (omega (arith, ints, light, weights_rise basis h count k s (omega (arith, l, length-vectors_of basis.moves)), ap (λ x. weight basis.grading (lead x)) same))
 
-    -- ---- pairs that overlap with this weight are of lower moves
-    module _ (pair : Overlap) (o : IsOverlap basis.grading rows pair) (weighs : pair.weight ≡ weight_at basis count) where
-      abbrev a : List ℤ
-      a = move_at rows pair.first
+    -- ---- a pair of the lower moves is one of the basis
+    module _ (bound : ℤ) (pair : Overlap) (o : IsOverlap basis.grading (vectors_of lower.moves) bound pair) where
+      second_lower : pair.second < count
+      second_lower = omega (arith, o.within, length-vectors_of lower.moves)
 
-      abbrev b : List ℤ
-      b = move_at rows pair.second
-
-      inside : pair.second < length basis.moves
-      inside = omega (arith, o.within, length-vectors_of basis.moves)
-
-      of_a : Contains rows a
-      of_a = member_at pair.first (omega (arith, o.ordered, inside))
-
-      of_b : Contains rows b
-      of_b = member_at pair.second inside
-
-      first_point : IsPoint (length basis.grading) (lead a)
-      first_point = IsMove-lead list_grading (member_move list_grading h.reduced a of_a)
-
-      second_point : IsPoint (length basis.grading) (lead b)
-      second_point = IsMove-lead list_grading (member_move list_grading h.reduced b of_b)
-
-      pub pair_weighs : weight basis.grading (lcm (lead a) (lead b)) ≡ weight_at basis count
-      pair_weighs = sym (ap (λ (p : Overlap). p.weight) o.value) ∙ weighs
-
-      refuse : count ≤ pair.second → ⊥
-      refuse l = not_whole whole
+      pub overlap_of_basis : IsOverlap basis.grading rows bound pair
+      overlap_of_basis = record {
+        ordered = o.ordered;
+        within = omega (arith, second_lower, more, length-vectors_of basis.moves);
+        overlap = λ d. o.overlap (subst (λ x. AreDisjoint (lead x) (lead (move_at (vectors_of lower.moves) pair.second))) (sym first_same)
+            (subst (λ x. AreDisjoint (lead (move_at rows pair.first)) (lead x)) (sym second_same) d));
+        weighs =
+            ap (λ x. weight basis.grading (lcm (lead x) (lead (move_at rows pair.second)))) (sym first_same)
+            ∙ ap (λ x. weight basis.grading (lcm (lead (move_at (vectors_of lower.moves) pair.first)) (lead x))) (sym second_same) ∙ o.weighs;
+      }
         where
-          whole : lead b ≡ lcm (lead a) (lead b)
-          whole =
-              ⊎_elim (λ s. absurd (omega (arith, ints, s, pair_weighs, weights_rise basis h count pair.second l inside))) (λ e. e)
-              (divisor_cases list_grading (lcm (lead a) (lead b)) (lead b) (IsPoint-lcm first_point second_point) second_point (Divides-lcm_second (lead a) (lead b)))
+          first_same : move_at (vectors_of lower.moves) pair.first ≡ move_at rows pair.first
+          first_same = lower_at pair.first (omega (arith, o.ordered, second_lower))
 
-          apart : lead a ≡ lead b → ⊥
-          apart e =
-              let same : a ≡ b = reduced_once list_grading a b (member_reduced list_grading h.reduced a of_a) (member_reduced list_grading h.reduced b of_b) e in
-              ComesBefore-irreflexive (length basis.grading) basis.grading b
-              (subst (λ x. ComesBefore (length basis.grading) basis.grading x b) same (h.reduced.ascending pair.first pair.second [] o.ordered o.within))
-
-          not_whole : lead b ≡ lcm (lead a) (lead b) → ⊥
-          not_whole e =
-              let d : Divides (lead a) (lead b) = subst (Divides (lead a)) (sym e) (Divides-lcm_first (lead a) (lead b)) in
-              let reduced : IsReducedMove (length basis.grading) rows b = member_reduced list_grading h.reduced b of_b in
-              let same : reduced.from ≡ lead b = (reduced_ends list_grading reduced).0 in
-              lead_not_least list_grading h.reduced lower_part a of_a (reduced.divisors (lead a) first_point (rw same d) (λ s. apart (s ∙ same)))
-
-      pub overlap_is_lower : pair.second < count
-      overlap_is_lower = ⊎_elim (λ l. l) (λ l. absurd (refuse l)) (cases_lt pair.second count)
-
-      pub overlap_pair : IsPairOf (vectors_of lower.moves) (pair_of pair.first pair.second)
-      overlap_pair = record { ordered = o.ordered; within = omega (arith, overlap_is_lower, length-vectors_of lower.moves) }
+          second_same : move_at (vectors_of lower.moves) pair.second ≡ move_at rows pair.second
+          second_same = lower_at pair.second second_lower

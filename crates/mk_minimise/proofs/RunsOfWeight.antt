@@ -1,8 +1,7 @@
 -- Runs of one weight in a reduced basis, whose weights rise.
-use Rattle.std.proofs.Common.{◌≡◌, ◌⊎◌, inl, inr, ℕ, ◌+◌, ◌≤◌, ◌<◌, List, [], length, slice_get, Some, ℤ, ◌≤ℤ◌, ◌<ℤ◌, Contains, arith, ap, sym, ◌∙◌}
+use Rattle.std.proofs.Common.{◌≡◌, ◌⊎◌, inl, inr, ℕ, ◌+◌, ◌≤◌, ◌<◌, [], length, slice_get, Some, ◌≤ℤ◌, ◌<ℤ◌, arith, ap, sym, ◌∙◌}
 use Rattle.std.proofs.lemmas.Bool.{cases_lt}
 use Rattle.std.proofs.lemmas.Int.{ints, by_lt_z}
-use Rattle.std.proofs.lemmas.List.{get_or_default}
 use Rattle.mk_model.specs.CoreStates.{move_at}
 use Rattle.mk_model.specs.Orders.{lead, ComesBefore}
 use Rattle.mk_model.specs.Vectors.{weight}
@@ -39,13 +38,6 @@ module _ (basis : BasisView) (h : IsReducedList basis) where
       go : (i < j) ⊎ (i ≡ j) → weight_at basis i ≤ℤ weight_at basis j
       go (inl s) = weights_ascend i j s k
       go (inr e) = omega (arith, ints, ap (weight_at basis) e)
-
-  -- no move is heavier than the last
-  pub last_is_heaviest : (last : ℕ) → last + 1 ≡ length basis.moves → (m : List ℤ) → Contains (vectors_of basis.moves) m → weight basis.grading (lead m) ≤ℤ weight_at basis last
-  last_is_heaviest last e m (k, l, f) =
-      let within : k < length basis.moves = omega (arith, l, length-vectors_of basis.moves) in
-      let same : move_at (vectors_of basis.moves) k ≡ m = get_or_default (vectors_of basis.moves) k [] m l ∙ f in
-      omega (arith, ints, weights_rise k last (omega arith) (omega arith), ap (λ x. weight basis.grading (lead x)) same)
 
   -- ---- a run, until it ends
   pub run_begins : (start : ℕ) → start < length basis.moves → IsRunSoFar basis start (start + 1)

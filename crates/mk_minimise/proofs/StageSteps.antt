@@ -1,7 +1,7 @@
--- Steps of one weight: the next move of its run, the next pair, and why the work on a pair stops.
-use Rattle.std.proofs.Common.{◌≡◌, ℕ, ◌+◌, ◌≤◌, ◌<◌, List, [], ◌∷◌, ◌++◌, length, drop, get_or, slice_get, Some, ℤ, All, Contains, arith, ap, sym, ◌∙◌, subst}
+-- Steps of one weight: the next move of its run, and why the work on a pair stops.
+use Rattle.std.proofs.Common.{◌≡◌, ℕ, ◌+◌, ◌≤◌, ◌<◌, List, [], ◌∷◌, ◌++◌, length, drop, slice_get, Some, ℤ, All, Contains, arith, ap, sym, ◌∙◌, subst}
 use Rattle.std.proofs.lemmas.List.{map-append, length_push, take-append-drop}
-use Rattle.std.proofs.lemmas.List.Elements.{All-push, All-contains}
+use Rattle.std.proofs.lemmas.List.Elements.{All-push}
 use Rattle.std.proofs.lemmas.Option.{slice_get_within}
 use Rattle.mk_model.specs.CoreStates.{move_at, pair_of, IsPairOf, stop_at}
 use Rattle.mk_model.specs.Orders.{lead}
@@ -15,10 +15,10 @@ use Rattle.mk_minimise.specs.declared.minimal.MinimiseFault.{MinimiseFault}
 use Rattle.mk_minimise.specs.declared.minimal.MinimiseFault.TheVariants.{Memory, Overflow}
 use Rattle.mk_minimise.specs.declared.overlaps.Overlap.{Overlap}
 use Rattle.mk_minimise.specs.Minimal.{IsPairFault, IsMinimiseFault}
-use Rattle.mk_minimise.specs.Overlaps.{IsOverlap, AreOverlaps, AreOfWeight}
+use Rattle.mk_minimise.specs.Overlaps.{IsOverlap}
 use Rattle.mk_minimise.specs.Stages.{weight_at, IsFront, IsWeightRun, HasLead, TellsLeast, AreChosen}
 use Rattle.mk_minimise.proofs.ChosenMoves.{chosen_more, chosen_skip}
-use Rattle.mk_minimise.proofs.LowerFronts.{member_at, vectors_are, overlap_pair, pair_weighs}
+use Rattle.mk_minimise.proofs.LowerFronts.{member_at, vectors_are, overlap_of_basis}
 
 -- ---- the next move of a run
 -- chosen from the moves before a place, each belongs to the basis, and no more than they are
@@ -64,27 +64,23 @@ module _ (basis : BasisView) (h : IsReducedList basis) (start end : ℕ) (run : 
         few = omega (arith, choosing.few);
       }
 
--- ---- the next pair of a weight
-pub overlap_there : (w : List ℤ) (moves : List (List ℤ)) (overlaps pairs : List Overlap) (bound : ℤ) → AreOverlaps w moves overlaps → AreOfWeight overlaps bound pairs → (k : ℕ) (d : Overlap) → k < length pairs → IsOverlap w moves (get_or pairs k d)
-overlap_there w moves overlaps pairs bound all found k d l = All-contains (IsOverlap w moves) overlaps (get_or pairs k d) all.each (found.each k d l).0
-
-pub weight_there : (overlaps pairs : List Overlap) (bound : ℤ) → AreOfWeight overlaps bound pairs → (k : ℕ) (d : Overlap) → k < length pairs → (get_or pairs k d).weight ≡ bound
-weight_there overlaps pairs bound found k d l = (found.each k d l).1
-
 -- ---- why the work on a pair stops
-module _ (basis : BasisView) (h : IsReducedList basis) (lower : BasisView) (front : IsFront basis lower) (more : length lower.moves < length basis.moves) (pair : Overlap) (o : IsOverlap basis.grading (vectors_of basis.moves) pair) (weighs : pair.weight ≡ weight_at basis (length lower.moves)) where
+module _ (basis : BasisView) (h : IsReducedList basis) (lower : BasisView) (front : IsFront basis lower) (more : length lower.moves < length basis.moves) (pair : Overlap) (o : IsOverlap basis.grading (vectors_of lower.moves) (weight_at basis (length lower.moves)) pair) where
   abbrev rows : List (List ℤ)
   rows = vectors_of basis.moves
+
+  of_basis : IsOverlap basis.grading rows (weight_at basis (length lower.moves)) pair
+  of_basis = overlap_of_basis basis h lower front more (weight_at basis (length lower.moves)) pair o
 
   of_weight : (i j : ℕ) → pair_of i j ≡ pair_of pair.first pair.second → IsPairOfWeight basis.grading rows (pair_of i j)
   of_weight i j e =
       subst (IsPairOfWeight basis.grading rows) (sym e)
       (record {
-        of_list = record { ordered = o.ordered; within = o.within };
-        overlap = o.overlap;
+        of_list = record { ordered = of_basis.ordered; within = of_basis.within };
+        overlap = of_basis.overlap;
         move = move_at rows (length lower.moves);
         member = member_at basis h (length lower.moves) more;
-        same = pair_weighs basis h lower front more pair o weighs;
+        same = of_basis.weighs;
       })
 
   pub pair_fault_is : (fault : MinimiseFault) → IsPairFault (vectors_of lower.moves) (pair_of pair.first pair.second) fault → IsMinimiseFault basis fault
@@ -93,5 +89,5 @@ module _ (basis : BasisView) (h : IsReducedList basis) (lower : BasisView) (fron
     of_weight i j e,
     subst (λ (moves : List (List ℤ)). IsGenuineOverflow moves (stop_at (pair_of i j) by (vector_of operand) at.column at.left at.times at.right))
         (ap (λ xs. xs ++ drop (length lower.moves) rows) (vectors_are basis h lower front more) ∙ take-append-drop (length lower.moves) rows)
-        (IsGenuineOverflow-append (vectors_of lower.moves) (drop (length lower.moves) rows) _ (subst (IsPairOf (vectors_of lower.moves)) (sym e) (overlap_pair basis h lower front more pair o weighs)) genuine),
+        (IsGenuineOverflow-append (vectors_of lower.moves) (drop (length lower.moves) rows) _ (subst (IsPairOf (vectors_of lower.moves)) (sym e) (record { ordered = o.ordered; within = o.within })) genuine),
   )

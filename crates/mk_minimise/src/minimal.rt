@@ -1,16 +1,12 @@
-ghost use Rattle.std.specs.Prelude.{◌≡◌, ◌<◌, ◌≤◌, IfOk, IfErr, List, ℤ, ◌≤ℤ◌, length, All, Contains, slice_get, Some};
+ghost use Rattle.std.specs.Prelude.{◌≡◌, ◌<◌, ◌≤◌, IfOk, IfErr, length, All};
 ghost use Rattle.mk_model.specs.Bases.{IsAnswer};
 ghost use Rattle.mk_move.specs.Moves.{IsGraded};
 ghost use Rattle.mk_move.specs.MoveLists.{lattice_spanned, BelongsTo, vectors_of};
-ghost use Rattle.mk_model.specs.Orders.{lead};
-ghost use Rattle.mk_model.specs.Vectors.{weight};
 ghost use Rattle.mk_inter.specs.Tails.{IsReducedList};
 ghost use Rattle.mk_minimise.specs.Minimal.{IsMinimiseFault};
-ghost use Rattle.mk_minimise.specs.Overlaps.{AreOverlaps};
 ghost use Rattle.mk_minimise.specs.Stages.{AreChosen};
 
 use crate::lower::Lower;
-use crate::overlaps::{Overlap, overlaps_of};
 use crate::stages::{choose, end_of_weight, links_of};
 use mk_inter::ReducedBasis;
 use mk_model::NoMemory;
@@ -115,8 +111,7 @@ pub fn minimise(
     ensures refused { IfErr result (IsMinimiseFault basis.now) }
 {
     let moves = basis.basis();
-    let overlaps = overlaps_of(alloc, moves, heaviest(moves))?;
-    let chosen = chosen_of(alloc, moves, &overlaps)?;
+    let chosen = chosen_of(alloc, moves)?;
     Ok(MinimalList {
         columns: grading.columns(),
         moves: chosen,
@@ -124,9 +119,8 @@ pub fn minimise(
 }
 
 /// The moves of a reduced basis whose lead is the least of its component, in their order.
-fn chosen_of(alloc: Global, basis: &Basis, overlaps: &[Overlap]) -> Result<Vec<Move>, MinimiseFault>
-    requires reduced { IsReducedList basis.now }
-    requires overlaps { AreOverlaps basis.now.grading (vectors_of basis.now.moves) overlaps.now }
+fn chosen_of(alloc: Global, basis: &Basis) -> Result<Vec<Move>, MinimiseFault>
+    requires { IsReducedList basis.now }
     ensures chosen { IfOk result (λ chosen. AreChosen (length basis.now.grading) basis.now.grading (vectors_of basis.now.moves) (length basis.now.moves) (vectors_of chosen.items)) }
     ensures belongs { IfOk result (λ chosen. All (BelongsTo basis.now.priority basis.now.grading) chosen.items) }
     ensures few { IfOk result (λ chosen. length chosen.items ≤ length basis.now.moves) }
@@ -136,20 +130,9 @@ fn chosen_of(alloc: Global, basis: &Basis, overlaps: &[Overlap]) -> Result<Vec<M
     let mut chosen = Vec::new(alloc);
     while lower.len() < basis.len() {
         let end = end_of_weight(basis, lower.len());
-        let links = links_of(alloc, basis, &lower, overlaps)?;
+        let links = links_of(alloc, basis, &lower)?;
         choose(basis, lower.len(), end, &links, &mut chosen)?;
         lower = lower.raised(basis, end)?;
     }
     Ok(chosen)
-}
-
-/// A weight that no move of a reduced basis exceeds: that of the last.
-fn heaviest(basis: &Basis) -> i128
-    requires { IsReducedList basis.now }
-    ensures { (m : List ℤ) → Contains (vectors_of basis.now.moves) m → weight basis.now.grading (lead m) ≤ℤ result }
-{
-    if basis.len() == 0 {
-        return 0;
-    }
-    basis.move_at(basis.len() - 1).weight()
 }

@@ -7,13 +7,12 @@ ghost use Rattle.mk_reduce.specs.Works.{IsRest};
 ghost use Rattle.mk_inter.specs.Tails.{IsReducedList};
 ghost use Rattle.mk_core.specs.Remainders.{IsRemainder};
 ghost use Rattle.mk_minimise.specs.Minimal.{IsMinimiseFault, IsPairFault};
-ghost use Rattle.mk_minimise.specs.Overlaps.{AreOverlaps};
 ghost use Rattle.mk_minimise.specs.Stages.{weight_at, IsFront, IsAsHeavy, IsWeightRun, HasLead, TellsLeast, AreChosen};
 
 use crate::links::{add_link, is_end};
 use crate::lower::Lower;
 use crate::minimal::MinimiseFault;
-use crate::overlaps::{Overlap, of_weight};
+use crate::overlaps::overlaps_of;
 use mk_core::{WorkFault, work_on};
 use mk_model::NoMemory;
 use mk_move::{Basis, Move, Side};
@@ -46,20 +45,18 @@ pub(crate) fn links_of(
     alloc: Global,
     basis: &Basis,
     lower: &Lower,
-    overlaps: &[Overlap],
 ) -> Result<Vec<Move>, MinimiseFault>
     requires reduced { IsReducedList basis.now }
     requires front { IsFront basis.now lower.now }
     requires within { length lower.now.moves < length basis.now.moves }
-    requires overlaps { AreOverlaps basis.now.grading (vectors_of basis.now.moves) overlaps.now }
     ensures tells { IfOk result (λ links. TellsLeast (length basis.now.grading) basis.now.grading (vectors_of basis.now.moves) (weight_at basis.now (length lower.now.moves)) (vectors_of links.items)) }
     ensures belongs { IfOk result (λ links. All (BelongsTo basis.now.priority basis.now.grading) links.items) }
     ensures refused { IfErr result (IsMinimiseFault basis.now) }
 {
     let weight = basis.move_at(lower.len()).weight();
     let mut links = Vec::new(alloc);
-    let pairs = of_weight(overlaps, weight);
-    for pair in pairs {
+    let pairs = overlaps_of(alloc, lower.basis(), weight)?;
+    for pair in &pairs {
         if let Some(rest) = remainder_of(alloc, lower, pair.first, pair.second)? {
             add_link(alloc, rest, basis, &mut links)?;
         }

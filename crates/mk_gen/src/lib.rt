@@ -1,0 +1,6 @@
+//! Made tables: the lattices of tables of two or three sizes, whose rows are products of differences of neighbours.
+#![tactic(auto)]
+
+mod model;
+
+pub use model::model_table;

@@ -1,3 +1,4 @@
 pub mod Pieces
 pub mod Units
 pub mod Rows
+pub mod Sums

@@ -1,8 +1,9 @@
 -- The rows of tables, and of a table with one size more.
-use Rattle.std.proofs.Common.{◌≡◌, ℕ, zero, suc, ◌+◌, ◌-◌, ◌*◌, ◌≤◌, List, [], ◌∷◌, ◌++◌, length, map, take, drop, All, refl, ap, sym, ◌∙◌, arith, append_assoc, length-append, ℤ, pos, ◌*ℤ◌}
+use Rattle.std.proofs.Common.{◌≡◌, ℕ, zero, suc, ◌+◌, ◌-◌, ◌*◌, ◌≤◌, ◌<◌, List, [], ◌∷◌, ◌++◌, length, map, take, drop, get_or, All, refl, ap, sym, ◌∙◌, arith, append_assoc, length-append, ℤ, pos, ◌*ℤ◌}
 use Rattle.std.specs.List.{flat_map, range_with_len}
+use Rattle.std.proofs.Math.Nat.{mul-le-mul}
 use Rattle.std.proofs.Math.Seq.{take-append_seam, drop-append_seam}
-use Rattle.std.proofs.lemmas.List.{length-map, length-drop, length-take-le}
+use Rattle.std.proofs.lemmas.List.{length-map, length-drop, length-take-le, drop_more}
 use Rattle.std.proofs.lemmas.List.Elements.{All-nil, All-cons, All-head, All-tail, All-append, All-map, All-take, All-drop}
 use Rattle.std.proofs.lemmas.List.Folds.{flat_map-map}
 use Rattle.std.proofs.lemmas.List.FromFn.{length-range_with_len}
@@ -11,7 +12,7 @@ use Rattle.mk_model.specs.Tables.{Grid, cut, rows_of}
 use Rattle.mk_model.specs.Vectors.{IsEntry, scale}
 use Rattle.mk_model.proofs.VectorAlgebra.{length-scale}
 use Rattle.mk_files.specs.Table.{IsTable}
-use Rattle.mk_gen.specs.Models.{difference, times_difference, model_rows, cells, model_grid}
+use Rattle.mk_gen.specs.Models.{difference, times_difference, AreModelSizes, model_rows, cells, model_grid}
 use Rattle.mk_gen.specs.Wider.{wider}
 use Rattle.mk_gen.proofs.Units.{IsUnit, unit_times, difference_is_unit}
 
@@ -40,6 +41,9 @@ same_pieces f g h [] = refl
 same_pieces f g h (x ∷ xs) = ap (λ t. t ++ flat_map f xs) (h x) ∙ ap (λ t. g x ++ t) (same_pieces f g h xs)
 
 -- ---- rows
+abbrev pub grid_of : ℕ → ℕ → List ℤ → Grid
+grid_of rows columns entries = record { rows = rows; columns = columns; entries = entries }
+
 length-cut : (rows columns : ℕ) (entries : List ℤ) → length (cut rows columns entries) ≡ rows
 length-cut zero columns entries = refl
 length-cut (suc rows) columns entries = ap suc (length-cut rows columns (drop columns entries))
@@ -130,7 +134,9 @@ many_rows n sizes =
 pub rows_few : (sizes : List ℕ) → length (model_rows sizes) ≤ cells sizes
 unfolding model_rows cells
 rows_few [] = omega arith
-rows_few (n ∷ sizes) = omega (arith, many_rows n sizes, mul-le-mul (n - 1) n (length (model_rows sizes)) (cells sizes) (omega arith) (rows_few sizes))
+rows_few (n ∷ sizes) =
+    let fewer : (n - 1) * length (model_rows sizes) ≤ n * cells sizes = mul-le-mul (omega arith) (rows_few sizes) in
+    omega (arith, many_rows n sizes, fewer)
 
 -- one size more in front
 pub wider_model : (n : ℕ) (sizes : List ℕ) → wider n (model_grid sizes) ≡ model_grid (n ∷ sizes)
@@ -156,3 +162,32 @@ cells_left (suc k) [] h = omega arith
 cells_left (suc k) (zero ∷ sizes) h = absurd (omega (arith, (All-head (λ n. (2 ≤ n) × (n ≤ 16)) zero sizes h).0))
 cells_left (suc k) (suc n ∷ sizes) h =
     omega (arith, cells_left k sizes (All-tail (λ n. (2 ≤ n) × (n ≤ 16)) (suc n) sizes h))
+
+-- ---- from the table of the last sizes to that of one size more
+module _ (sizes : List ℕ) (done : ℕ) (table : Grid) (more : done < length sizes) where
+  abbrev size : ℕ
+  size = get_or sizes (length sizes - 1 - done) 0
+
+  abbrev rest : List ℕ
+  rest = drop (length sizes - done) sizes
+
+  now_in_front : drop (length sizes - (done + 1)) sizes ≡ size ∷ rest
+  now_in_front =
+      let here : length sizes - (done + 1) ≡ length sizes - 1 - done = omega arith in
+      let behind : length sizes - 1 - done + 1 ≡ length sizes - done = omega (arith, more) in
+      ap (λ k. drop k sizes) here ∙ drop_more sizes (length sizes - 1 - done) 0 (omega (arith, more)) ∙ ap (λ k. size ∷ drop k sizes) behind
+
+  cells_within : AreModelSizes sizes → size * cells rest ≤ 512
+  unfolding cells
+  cells_within h = omega (arith, h.cells_few, cells_left (length sizes - (done + 1)) sizes h.each, ap cells now_in_front)
+
+  pub next_table : table ≡ model_grid rest → wider size table ≡ model_grid (drop (length sizes - (done + 1)) sizes)
+  next_table e = ap (wider size) e ∙ wider_model size rest ∙ ap model_grid (sym now_in_front)
+
+  pub next_rows : AreModelSizes sizes → table ≡ model_grid rest → (size - 1) * table.rows ≤ 4096
+  next_rows h e =
+      let fewer : (size - 1) * table.rows ≤ size * cells rest = mul-le-mul (omega arith) (omega (arith, rows_few rest, ap (λ (t : Grid). t.rows) e)) in
+      omega (arith, fewer, cells_within h)
+
+  pub next_columns : AreModelSizes sizes → table ≡ model_grid rest → size * table.columns ≤ 512
+  next_columns h e = omega (arith, cells_within h, ap (λ (t : Grid). size * t.columns) e)

@@ -1,33 +1,33 @@
-use Rattle.std.proofs.Common.{rules, ◌≡◌, ◌≤◌, ◌-◌, ◌*◌, ◌++◌, [], All, IfOk, pos, neg_ℤ, ◌≤ℤ◌, ℕ, ◌+◌, ◌<◌, length, ◌/◌, ◌%◌, Bool, true, false, nat_eq, nat_lt, List, ◌∷◌, slice_index_or, slice_set, bit_and, bit_or, Fits, w8, w32, w64, Bor, MutBor}
-use Rattle.std.specs.List.{flat_map}
-use Rattle.mk_model.specs.Vectors.{IsEntry, scale}
-use Rattle.mk_model.specs.Tables.{rows_of}
+use Rattle.std.proofs.Common.{◌≡◌, ℕ, ◌+◌, ◌-◌, ◌*◌, ◌≤◌, ◌<◌, length, drop, get_or, List, ◌∷◌, ap, sym, ◌∙◌, subst, arith, []}
+use Rattle.std.proofs.lemmas.List.{drop_all}
+use Rattle.mk_model.specs.Tables.{Grid}
 use Rattle.mk_model.specs.Lattices.{ones}
 use Rattle.mk_model.specs.ChosenGradings.{IsGradingOf}
-use Rattle.mk_gen.specs.Models.{AreModelSizes, difference, times_difference, model_grid}
+use Rattle.mk_gen.specs.Models.{AreModelSizes, model_grid, model_rows, cells}
 use Rattle.mk_gen.specs.Wider.{wider}
+use Rattle.mk_gen.proofs.Rows.{wider_model, next_table, next_rows, next_columns}
+use Rattle.mk_gen.proofs.Sums.{ones_grade}
 use Rattle.mk_gen.proofs.model.model_table.Goals as goal
 
--- src/model.rt:27:5
 pub loop-done-init : goal.loop-done-init
-loop-done-init c = ?
+loop-done-init c = c.in_ok-table.ensures ∙ ap model_grid (sym (drop_all (length c.args.sizes.now - 0) c.args.sizes.now (omega arith)))
 
--- src/model.rt:28:17
 pub with_size-requires-clause-rows : goal.with_size-requires-clause-rows
-with_size-requires-clause-rows c = ?
+with_size-requires-clause-rows c = next_rows c.args.sizes.now c.loop-done.done c.loop-done.table c.loop-done-test.true c.requires c.loop-done.invariant
 
--- src/model.rt:28:17
 pub with_size-requires-clause-columns : goal.with_size-requires-clause-columns
-with_size-requires-clause-columns c = ?
+with_size-requires-clause-columns c = next_columns c.args.sizes.now c.loop-done.done c.loop-done.table c.loop-done-test.true c.requires c.loop-done.invariant
 
--- src/model.rt:27:5
 pub loop-done-preserved : goal.loop-done-preserved
-loop-done-preserved c = ?
+loop-done-preserved c = c.in_ok-table-2.ensures ∙ next_table c.args.sizes.now c.loop-done.done c.loop-done.table c.loop-done-test.true c.loop-done.invariant
 
--- src/model.rt:21:1
+the_table : (c : goal.After-loop-done) → c.loop-done.table ≡ model_grid c.args.sizes.now
+the_table c =
+    let none : length c.args.sizes.now - c.loop-done.done ≡ 0 = omega arith in
+    c.loop-done.invariant ∙ ap (λ k. model_grid (drop k c.args.sizes.now)) none
+
 pub returns-clause-table : goal.returns-clause-table
-returns-clause-table c = ?
+returns-clause-table c = the_table c
 
--- src/model.rt:21:1
 pub returns-clause-graded : goal.returns-clause-graded
-returns-clause-graded c = ?
+returns-clause-graded c = subst (λ (grid : Grid). IsGradingOf grid (ones grid.columns)) (sym (the_table c)) (ones_grade c.args.sizes.now c.requires.some)

@@ -2,3 +2,4 @@ pub mod Pieces
 pub mod Units
 pub mod Rows
 pub mod Sums
+pub mod Sizes

@@ -1,5 +1,5 @@
 -- The rows of tables, and of a table with one size more.
-use Rattle.std.proofs.Common.{◌≡◌, ℕ, zero, suc, ◌+◌, ◌-◌, ◌*◌, ◌≤◌, ◌<◌, List, [], ◌∷◌, ◌++◌, length, map, take, drop, get_or, All, refl, ap, sym, ◌∙◌, arith, append_assoc, length-append, ℤ, pos, ◌*ℤ◌}
+use Rattle.std.proofs.Common.{◌≡◌, ℕ, zero, suc, ◌+◌, ◌-◌, ◌*◌, ◌≤◌, ◌<◌, List, [], ◌∷◌, ◌++◌, length, map, take, drop, get_or, All, refl, ap, sym, ◌∙◌, arith, length-append, ℤ, pos, ◌*ℤ◌}
 use Rattle.std.specs.List.{flat_map, range_with_len}
 use Rattle.std.proofs.Math.Nat.{mul-le-mul}
 use Rattle.std.proofs.Math.Seq.{take-append_seam, drop-append_seam}
@@ -117,7 +117,7 @@ model_columns [] = All-cons (λ row. length row ≡ 1) (pos 1 ∷ []) [] refl (A
 model_columns (n ∷ sizes) =
     All-pieces (λ row. length row ≡ n * cells sizes) (λ s. map (times_difference n s) (model_rows sizes)) (range_with_len 0 (n - 1))
     (λ k d l. All-map (λ row. length row ≡ n * cells sizes) (times_difference n _) (model_rows sizes)
-     (λ i e j. length-times_difference n _ _ ∙ ap (λ m. n * m) (model_columns sizes i e j)))
+    (λ i e j. length-times_difference n _ _ ∙ ap (λ m. n * m) (model_columns sizes i e j)))
 
 pub rows_of_model : (sizes : List ℕ) → rows_of (model_grid sizes) ≡ model_rows sizes
 rows_of_model sizes = cut_rows (cells sizes) (model_rows sizes) (model_columns sizes)

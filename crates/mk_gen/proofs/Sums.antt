@@ -1,11 +1,10 @@
 -- The sum of a row, which is its product with the grading of all ones.
-use Rattle.std.proofs.Common.{◌≡◌, ℕ, zero, suc, ◌+◌, ◌-◌, ◌*◌, ◌≤◌, ◌<◌, List, [], ◌∷◌, ◌++◌, length, map, get_or, All, refl, ap, sym, ◌∙◌, subst, arith, ℤ, pos, neg_ℤ, ◌+ℤ◌, ◌*ℤ◌, ◌≤ℤ◌}
+use Rattle.std.proofs.Common.{◌≡◌, ℕ, zero, suc, ◌+◌, ◌-◌, ◌≤◌, ◌<◌, List, [], ◌∷◌, ◌++◌, length, map, get_or, All, refl, ap, sym, ◌∙◌, subst, arith, ℤ, pos, neg_ℤ, ◌+ℤ◌, ◌*ℤ◌}
 use Rattle.std.specs.List.{flat_map, range_with_len}
 use Rattle.std.proofs.lemmas.Int.{ints}
 use Rattle.std.proofs.lemmas.List.{length-replicate, get_or-replicate}
 use Rattle.std.proofs.lemmas.List.Elements.{All-map}
 use Rattle.std.proofs.lemmas.List.FromFn.{length-range_with_len, get_or-range_with_len}
-use Rattle.mk_model.specs.Tables.{Grid, rows_of}
 use Rattle.mk_model.specs.Vectors.{scale, weight}
 use Rattle.mk_model.specs.Lattices.{ones}
 use Rattle.mk_model.specs.ChosenGradings.{IsGradingOf}
@@ -85,7 +84,7 @@ unfolding model_rows
 model_sums n sizes =
     All-pieces (λ row. total row ≡ pos 0) (λ s. map (times_difference n s) (model_rows sizes)) (range_with_len 0 (n - 1))
     (λ k d l. All-map (λ row. total row ≡ pos 0) (times_difference n _) (model_rows sizes)
-     (λ i e j. sum_of_times n _ _ (omega (arith, l, length-range_with_len 0 (n - 1), get_or-range_with_len 0 (n - 1) k d (omega (arith, l, length-range_with_len 0 (n - 1)))))))
+    (λ i e j. sum_of_times n _ _ (omega (arith, l, length-range_with_len 0 (n - 1), get_or-range_with_len 0 (n - 1) k d (omega (arith, l, length-range_with_len 0 (n - 1)))))))
 
 model_weights : (sizes : List ℕ) → 2 ≤ length sizes → All (λ row. weight (ones (cells sizes)) row ≡ pos 0) (model_rows sizes)
 model_weights [] h = absurd (omega arith)

@@ -1,7 +1,7 @@
 -- Entries times 1, 0 or -1.
 use Rattle.std.proofs.Common.{◌≡◌, ℕ, zero, suc, ◌≤◌, ℤ, pos, negsuc, neg_ℤ, ◌*ℤ◌, ◌≤ℤ◌, unsigned_abs, ap, ◌∙◌, arith, Bool, true, false, ◌+◌}
 use mir.Syntax.{w128}
-use mir.Val.{SFits, to_z, of_z}
+use mir.Val.{to_z, of_z}
 use Rattle.std.proofs.lemmas.Int.{ints, to_z-of_z, fits_signed_from_abs}
 use Rattle.mk_model.specs.declared.TheConstants.{ENTRY_MAX}
 use Rattle.std.specs.Prelude.{◌==◌, if◌then◌else◌}

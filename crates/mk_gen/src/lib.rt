@@ -2,5 +2,7 @@
 #![tactic(auto)]
 
 mod model;
+#[cfg(test)]
+mod tests;
 
 pub use model::model_table;

@@ -1,11 +1,10 @@
-use Rattle.std.proofs.Common.{◌≡◌, ℕ, ◌+◌, ◌-◌, ◌*◌, ◌≤◌, ◌<◌, length, drop, get_or, List, ◌∷◌, ap, sym, ◌∙◌, subst, arith, []}
+use Rattle.std.proofs.Common.{◌≡◌, ◌-◌, length, drop, ap, sym, ◌∙◌, subst, arith}
 use Rattle.std.proofs.lemmas.List.{drop_all}
 use Rattle.mk_model.specs.Tables.{Grid}
 use Rattle.mk_model.specs.Lattices.{ones}
 use Rattle.mk_model.specs.ChosenGradings.{IsGradingOf}
-use Rattle.mk_gen.specs.Models.{AreModelSizes, model_grid, model_rows, cells}
-use Rattle.mk_gen.specs.Wider.{wider}
-use Rattle.mk_gen.proofs.Rows.{wider_model, next_table, next_rows, next_columns}
+use Rattle.mk_gen.specs.Models.{model_grid}
+use Rattle.mk_gen.proofs.Rows.{next_table, next_rows, next_columns}
 use Rattle.mk_gen.proofs.Sums.{ones_grade}
 use Rattle.mk_gen.proofs.model.model_table.Goals as goal
 

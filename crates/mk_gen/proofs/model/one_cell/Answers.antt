@@ -1,5 +1,4 @@
-use Rattle.std.proofs.Common.{List, ℤ, ap, ◌∙◌}
-use Rattle.mk_model.specs.Tables.{Grid}
+use Rattle.std.proofs.Common.{ap, ◌∙◌}
 use Rattle.mk_gen.specs.Models.{model_rows, cells}
 use Rattle.mk_gen.proofs.Rows.{grid_of}
 use Rattle.mk_gen.proofs.model.one_cell.Goals as goal

@@ -1,4 +1,4 @@
-use Rattle.std.proofs.Common.{◌++◌, List, ℤ, pos, ◌∷◌, [], take, get_or, ◌*ℤ◌, ap, sym, ◌∙◌, arith, append-nil}
+use Rattle.std.proofs.Common.{◌++◌, pos, ◌∷◌, [], take, get_or, ◌*ℤ◌, ap, sym, ◌∙◌, append-nil}
 use Rattle.std.proofs.lemmas.List.{take_all}
 use Rattle.mk_model.specs.Vectors.{scale}
 use Rattle.mk_gen.proofs.Pieces.{entry_piece}

@@ -1,4 +1,4 @@
-use Rattle.std.proofs.Common.{◌++◌, List, ℤ, ap, sym, ◌∙◌, arith, append-nil}
+use Rattle.std.proofs.Common.{◌++◌, ap, sym, ◌∙◌, arith, append-nil}
 use Rattle.std.specs.List.{flat_map}
 use Rattle.std.proofs.lemmas.List.{take_all}
 use Rattle.mk_model.specs.Tables.{rows_of}

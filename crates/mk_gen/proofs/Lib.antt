@@ -1,0 +1,5 @@
+pub mod Pieces
+pub mod Units
+pub mod Rows
+pub mod Sums
+pub mod Sizes

@@ -63,26 +63,40 @@ pub record IsNextCandidate (moves : List (List ℤ)) (pair : Pair) (from third :
   pub candidate : IsCandidate moves pair from third
   pub least : (other : ℕ) → other < third → ¬ (IsCandidate moves pair from other)
 
--- The next candidate is tried, where fewer than eight were: the claim is settled through it; or one of its pairs isn't
--- settled, and the search goes on behind it.
-pub record IsTry (n : ℕ) (priority : List ℕ) (state : CoreState) (worker : ℕ) (pair : Pair) (seen from tried : ℕ) (after : CoreState) (next : Stage) : Type 0 where
+-- The claim is settled through the third move; or one of its pairs isn't settled, and the search goes on behind it.
+abbrev pub IsTried : ℕ → List ℕ → CoreState → ℕ → Pair → ℕ → ℕ → ℕ → CoreState → Stage → Type 0
+IsTried n priority state worker pair seen third tried after next =
+    (IsSettling n priority state worker (Chain third) after × (next ≡ Idle))
+    ⊎ ((¬ (AreSettled state.journal pair.first third × AreSettled state.journal pair.second third)) × (after ≡ state) × (next ≡ Tests seen (third + 1) (tried + 1)))
+
+-- the next candidate is tried, where fewer than eight were
+pub record TriesNext (n : ℕ) (priority : List ℕ) (state : CoreState) (worker : ℕ) (pair : Pair) (seen from tried : ℕ) (after : CoreState) (next : Stage) : Type 0 where
   pub few : tried < 8
   pub third : ℕ
   pub found : IsNextCandidate (take seen state.basis) pair from third
-  pub then : (IsSettling n priority state worker (Chain third) after × (next ≡ Idle))
-      ⊎ ((¬ (AreSettled state.journal pair.first third × AreSettled state.journal pair.second third)) × (after ≡ state) × (next ≡ Tests seen (third + 1) (tried + 1)))
+  pub answer : IsTried n priority state worker pair seen third tried after next
 
 -- eight candidates were tried, or no other is left
 abbrev pub NoneIsLeft : List (List ℤ) → Pair → ℕ → ℕ → Type 0
 NoneIsLeft moves pair from tried = (8 ≤ tried) ⊎ ((third : ℕ) → ¬ (IsCandidate moves pair from third))
 
--- The claim is settled by disjoint leads; or else the next candidate is tried; or none is left, and it is ready.
+-- the next candidate is tried; or none is left, and the pair is ready
+abbrev pub IsSearch : ℕ → List ℕ → CoreState → ℕ → Pair → ℕ → ℕ → ℕ → CoreState → Stage → Type 0
+IsSearch n priority state worker pair seen from tried after next =
+    TriesNext n priority state worker pair seen from tried after next
+    ⊎ (NoneIsLeft (take seen state.basis) pair from tried × (after ≡ state) × (next ≡ Ready seen))
+
+-- the claim is settled by disjoint leads; or else third moves are looked for
+abbrev pub IsTest : ℕ → List ℕ → CoreState → ℕ → Pair → ℕ → ℕ → ℕ → CoreState → Stage → Type 0
+IsTest n priority state worker pair seen from tried after next =
+    (IsSettling n priority state worker Coprime after × (next ≡ Idle))
+    ⊎ (HaveCommonColumn state.basis pair × IsSearch n priority state worker pair seen from tried after next)
+
+-- the pair of the claim is tested
 pub record IsTestsLine (n : ℕ) (priority : List ℕ) (state : CoreState) (worker seen from tried : ℕ) (after : CoreState) (next : Stage) : Type 0 where
   pub pair : Pair
   pub claimed : claim_of state worker ≡ Some pair
-  pub line : (IsSettling n priority state worker Coprime after × (next ≡ Idle))
-      ⊎ (HaveCommonColumn state.basis pair
-      × (IsTry n priority state worker pair seen from tried after next ⊎ (NoneIsLeft (take seen state.basis) pair from tried × (after ≡ state) × (next ≡ Ready seen))))
+  pub test : IsTest n priority state worker pair seen from tried after next
 
 -- ---- ready and stale
 -- a reduct of the vector, which is zero or normal
@@ -90,13 +104,18 @@ pub record IsReducedTo (n : ℕ) (moves : List (List ℤ)) (from left : List ℤ
   pub reduct : Reduct moves from left
   pub reduced : (left ≡ zeros n) ⊎ IsNormal moves left
 
--- Nothing changes but the stage: the vector of the claim is reduced by the moves, so many, or an entry leaves the range.
+-- so much is left, by so many moves; or an entry leaves the range
+abbrev pub ReducesTo : ℕ → List (List ℤ) → ℕ → Pair → List ℤ → Stage → Type 0
+ReducesTo n moves seen pair from next =
+    ((left : List ℤ) × IsReducedTo n moves from left × (next ≡ Reduced seen left))
+    ⊎ ((stop : OverflowStop) × (stop.pair ≡ pair) × IsPairOverflow moves stop × (next ≡ Stopping stop))
+
+-- Nothing changes but the stage: the vector of the claimed pair is reduced by the moves, so many.
 pub record IsReducingLine (n : ℕ) (state : CoreState) (worker : ℕ) (moves : List (List ℤ)) (seen : ℕ) (from : Pair → List ℤ) (after : CoreState) (next : Stage) : Type 0 where
   pub pair : Pair
   pub claimed : claim_of state worker ≡ Some pair
   pub same : after ≡ state
-  pub line : ((left : List ℤ) × IsReducedTo n moves (from pair) left × (next ≡ Reduced seen left))
-      ⊎ ((stop : OverflowStop) × (stop.pair ≡ pair) × IsPairOverflow moves stop × (next ≡ Stopping stop))
+  pub reduces : ReducesTo n moves seen pair (from pair) next
 
 -- ---- reduced
 -- the claim is settled by a move that is what is left or its negative

@@ -32,7 +32,7 @@ pub(crate) fn skip_pair(ledger: &mut Ledger, i: u32, j: u32) -> Result<bool, NoM
 }
 
 /// Have the leads of two moves of the basis no column in common?
-fn have_coprime_leads(basis: &Basis, i: u32, j: u32) -> bool
+pub(crate) fn have_coprime_leads(basis: &Basis, i: u32, j: u32) -> bool
     requires first { i < length basis.now.moves }
     requires second { j < length basis.now.moves }
     ensures { IsTrue result ↔ AreDisjoint (lead (move_at (vectors_of basis.now.moves) i)) (lead (move_at (vectors_of basis.now.moves) j)) }

@@ -210,16 +210,17 @@ fn settle_work(ledger: &mut Ledger, worker: u32, work: Work) -> Result<Stage, No
     requires { HasReduced ledger.old worker work }
     ensures { IfOk result (TakesLine ledger.old worker (Reduced work) ledger.new) }
 {
-    if work.remainder().is_some() && work.front() < ledger.basis().len() {
+    // Whoever has its basis knows that it is legal.
+    let length = ledger.basis().len();
+    if work.remainder().is_none() {
+        ledger.settle_zero(worker)?;
+        return Ok(Stage::Idle);
+    }
+    if work.front() < length {
         return Ok(Stage::Stale { work });
     }
-    match work.into_remainder() {
-        Some(rest) => place_rest(ledger, worker, rest),
-        None => {
-            ledger.settle_zero(worker)?;
-            Ok(Stage::Idle)
-        }
-    }
+    let rest = work.into_remainder().unwrap();
+    place_rest(ledger, worker, rest)
 }
 
 /// Settles the pair by what is left, oriented, or is gone where the basis is full.
@@ -230,7 +231,11 @@ fn place_rest(ledger: &mut Ledger, worker: u32, mut rest: Move) -> Result<Stage,
     rest.orient(ledger.basis().priority());
     let front = ledger.basis().len();
     match ledger.settle_place(worker, front, rest) {
-        Ok(_) => Ok(Stage::Idle),
+        Ok(_) => {
+            // Whoever has its basis knows that it is legal.
+            let _ = ledger.basis();
+            Ok(Stage::Idle)
+        }
         Err(PlaceFault::BasisFull) => Ok(Stage::Gone),
         Err(PlaceFault::Memory { .. }) => Err(NoMemory),
         Err(PlaceFault::Behind { .. }) => unreachable!(),

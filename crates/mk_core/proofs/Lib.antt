@@ -9,3 +9,4 @@ pub mod Remainders
 pub mod NeededMoves
 pub mod Seats
 pub mod Lines
+pub mod Turns

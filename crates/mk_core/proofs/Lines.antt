@@ -1,31 +1,29 @@
 -- The lines that workers take, each from what its worker knows.
-use Rattle.std.proofs.Common.{◌≡◌, ◌≢◌, ◌⊎◌, inl, inr, ℕ, ◌+◌, ◌≤◌, ◌<◌, List, [], ◌∷◌, ◌++◌, length, length-append, take, Option, None, Some, IfSome, MatchOption, is_some, Bool, true, false, true≢false, ℤ, arith, ap, refl, sym, ◌∙◌, subst}
+use Rattle.std.proofs.Common.{◌≡◌, ◌≢◌, ◌⊎◌, inl, inr, ℕ, ◌+◌, ◌≤◌, ◌<◌, List, [], ◌∷◌, ◌++◌, length, length-append, take, Option, None, Some, IfSome, MatchOption, is_some, true, false, true≢false, ℤ, arith, ap, refl, sym, ◌∙◌, subst}
 use Rattle.std.proofs.lemmas.Option.{none-some, same_Some}
 use Rattle.std.proofs.lemmas.List.{append-nil, map_push}
 use Rattle.mk_model.specs.Vectors.{zeros, negate}
-use Rattle.mk_model.specs.CoreStates.{Pair, OverflowStop, Settle, claim_of, difference, IsPairOf}
+use Rattle.mk_model.specs.CoreStates.{Pair, Settle, claim_of, difference, IsPairOf}
 use Rattle.mk_model.specs.CoreStates.Way.{Chain, Zero, Place}
-use Rattle.mk_model.specs.Events.{AreSettled, IsSettling, HaveCommonColumn, IsPairOverflow}
-use Rattle.mk_model.specs.Overflows.{IsGenuineOverflow}
+use Rattle.mk_model.specs.Events.{AreSettled, IsSettling, HaveCommonColumn}
 use Rattle.mk_model.specs.Reductions.{Reduct, IsNormal}
 use Rattle.mk_model.specs.Programs as program
 use Rattle.mk_model.specs.Programs.{IsCandidate, IsNextCandidate, NoneIsLeft, IsReducedTo, IsWholeLine, ReducesTo}
 use Rattle.mk_move.specs.Moves.{Weighed, IsMoveKept}
 use Rattle.mk_move.specs.MoveLists.{BasisView, vectors_of}
 use Rattle.mk_criteria.specs.ThirdMoves.{IsThirdMove, IsLeastThirdMove}
-use Rattle.mk_reduce.specs.Works.{TheWork, WorkOf, rest_of, IsRest, IsReduced}
+use Rattle.mk_reduce.specs.Works.{TheWork, rest_of, IsRest, IsReduced}
 use Rattle.mk_reduce.proofs.LongerBases.{WorkOf-append}
 use Rattle.mk_ledger.specs.Halts.{stop_of}
 use Rattle.mk_ledger.specs.Ledgers.{LedgerView, IsLedger}
 use Rattle.mk_ledger.specs.Settlings.{OfClaim, IsFirstUnsettled, IsZeroClaim, IsPlacedLast}
-use Rattle.mk_ledger.specs.declared.halt.OverflowStop.{OverflowStop as Stopped}
 use Rattle.mk_core.specs.declared.seat.Stage.{Stage}
 use Rattle.mk_core.specs.declared.seat.Stage.TheVariants.{Idle, Fresh, Tests, Ready, Reduced, Stale, Stopping, Gone}
 use Rattle.mk_core.specs.declared.work.WorkFault.{WorkFault}
 use Rattle.mk_core.specs.declared.work.WorkFault.TheVariants.{Memory, Overflow}
 use Rattle.mk_core.specs.Remainders.{IsWorkFault}
-use Rattle.mk_core.specs.Seats.{IsStoppingBy, stage_of, IsLonger, HasCopy, HasWork, HasReduced, IsAt, TakesLine, ReducesWork, IsThirdTried, IsRestOfClaim, PlacesRest}
-use Rattle.mk_core.proofs.Seats.{longer_here, longer_same, settled_idle, as_many, claim_of_basis, state_moves, seen_vectors, common_seen, overflow_whole}
+use Rattle.mk_core.specs.Seats.{IsStoppingBy, stage_of, HasCopy, HasWork, HasReduced, IsAt, TakesLine, ReducesWork, IsThirdTried, IsRestOfClaim, PlacesRest}
+use Rattle.mk_core.proofs.Seats.{longer_here, longer_same, settled_idle, as_many, claim_of_basis, seen_vectors, common_seen, overflow_whole}
 
 -- ---- what an option that is matched tells
 pub match_none : {X : Type 0} (o : Option X) (N : Type 0) (P : X → Type 0) → MatchOption o N P → is_some o ≡ false → N
@@ -65,11 +63,14 @@ module _ (ledger : LedgerView) (kept : IsLedger ledger) (worker : ℕ) where
   pub copies : (pair : Pair) → claim_of ledger.state worker ≡ Some pair → (seen : BasisView) → seen ≡ ledger.basis → TakesLine ledger worker Fresh ledger (Tests seen 0 0)
   copies pair claimed seen e = record {
     line = (refl, ap (λ k. program.Stage.Tests k 0 0) (ap (λ b. length b.moves) e ∙ sym (as_many ledger kept)));
-    stands = (pair, record {
-      claimed = claimed;
-      longer = longer_same seen ledger.basis (sym e);
-      of_copy = subst (λ (b : BasisView). IsPairOf (vectors_of b.moves) pair) (sym e) (claim_of_basis ledger kept worker pair claimed);
-    });
+    stands = (
+      pair,
+      record {
+        claimed = claimed;
+        longer = longer_same seen ledger.basis (sym e);
+        of_copy = subst (λ (b : BasisView). IsPairOf (vectors_of b.moves) pair) (sym e) (claim_of_basis ledger kept worker pair claimed);
+      },
+    );
     longer = longer_here ledger.basis;
   }
 
@@ -161,7 +162,7 @@ module _ (ledger : LedgerView) (kept : IsLedger ledger) (worker : ℕ) where
     stands_after (Stopping stop) (e, genuine) = (
       copy.claimed ∙ ap Some (sym (e ∙ of_pair)),
       overflow_whole ledger kept seen copy.longer (stop_of stop) (subst (IsPairOf (vectors_of seen.moves)) (sym (e ∙ of_pair)) copy.of_copy)
-      (genuine, subst (HaveCommonColumn (vectors_of seen.moves)) (sym (e ∙ of_pair)) (common_seen ledger kept seen copy.longer pair copy.of_copy common)),
+          (genuine, subst (HaveCommonColumn (vectors_of seen.moves)) (sym (e ∙ of_pair)) (common_seen ledger kept seen copy.longer pair copy.of_copy common)),
     )
     stands_after Idle h = elim h [ ]
     stands_after Fresh h = elim h [ ]
@@ -278,12 +279,15 @@ module _ (ledger : LedgerView) (kept : IsLedger ledger) (worker : ℕ) where
   module _ (after : LedgerView) (kept_after : IsLedger after) (m placed : Weighed) (front place : ℕ) (turned : (placed.entries ≡ m.entries) ⊎ (placed.entries ≡ negate m.entries)) where
     pub places_rest : IsPlacedLast ledger worker front placed place after → PlacesRest ledger worker m after Idle
     places_rest h = record {
-      line = inl (record {
-        settling = subst (λ k. IsSettling n ledger.basis.priority ledger.state worker (Place k) after.state) (h.at_end ∙ sym (as_many ledger kept)) h.settling;
-        move = placed.entries;
-        sign = turned;
-        placed = kept_after.moves ∙ ap (λ (b : BasisView). vectors_of b.moves) h.pushed ∙ map_push (λ (w : Weighed). w.entries) ledger.basis.moves placed ∙ ap (λ moves. moves ++ placed.entries ∷ []) (sym kept.moves);
-      }, refl);
+      line = inl (
+        record {
+          settling = subst (λ k. IsSettling n ledger.basis.priority ledger.state worker (Place k) after.state) (h.at_end ∙ sym (as_many ledger kept)) h.settling;
+          move = placed.entries;
+          sign = turned;
+          placed = kept_after.moves ∙ ap (λ (b : BasisView). vectors_of b.moves) h.pushed ∙ map_push (λ (w : Weighed). w.entries) ledger.basis.moves placed ∙ ap (λ moves. moves ++ placed.entries ∷ []) (sym kept.moves);
+        },
+        refl,
+      );
       stands = settled_idle n ledger.basis.priority ledger.state worker (Place place) after.state h.settling;
       longer = record { priority = ap (λ (b : BasisView). b.priority) h.pushed; grading = ap (λ (b : BasisView). b.grading) h.pushed; more = placed ∷ []; moves = ap (λ (b : BasisView). b.moves) h.pushed };
     }
@@ -293,8 +297,10 @@ module _ (ledger : LedgerView) (kept : IsLedger ledger) (worker : ℕ) where
   placed_line work m h e l after next placed = record {
     line = inr (
       left_not_zero work h (λ f. none-some m (sym f ∙ e)),
-      inr (omega (arith, l, h.front, as_many ledger kept, ap length h.of_copy.copy.longer.moves, length-append h.seen.moves h.of_copy.copy.longer.more),
-        subst (λ left. IsWholeLine n ledger.basis.priority ledger.state worker left after.state (stage_of n next)) (ap (rest_of n) (sym e)) placed.line),
+      inr (
+        omega (arith, l, h.front, as_many ledger kept, ap length h.of_copy.copy.longer.moves, length-append h.seen.moves h.of_copy.copy.longer.more),
+        subst (λ left. IsWholeLine n ledger.basis.priority ledger.state worker left after.state (stage_of n next)) (ap (rest_of n) (sym e)) placed.line,
+      ),
     );
     stands = placed.stands;
     longer = placed.longer;

@@ -1,11 +1,11 @@
 -- What workers that take turns know, and how it stands in the state of the ledger.
-use Rattle.std.proofs.Common.{◌≡◌, ◌⊎◌, inl, inr, ℕ, ◌≤◌, Bool, true, false, true≢false, IsTrue, List, [], ◌∷◌, ◌++◌, length, take, Option, None, Some, ℤ, arith, ap, refl, sym, ◌∙◌, subst, append_assoc}
+use Rattle.std.proofs.Common.{◌≡◌, ℕ, Bool, false, true≢false, IsTrue, List, [], ◌++◌, length, take, Option, None, Some, ap, refl, sym, ◌∙◌, subst, append_assoc}
 use Rattle.std.proofs.lemmas.Option.{none-some, same_Some}
 use Rattle.std.proofs.lemmas.List.{append-nil, length-map, map-append, take_at}
-use Rattle.mk_model.specs.CoreStates.{Pair, Way, OverflowStop, Halt, CoreState, claim_of, halt_of, move_at, difference, IsPairOf}
+use Rattle.mk_model.specs.CoreStates.{Pair, Way, OverflowStop, Halt, CoreState, claim_of, halt_of, move_at, IsPairOf}
 use Rattle.mk_model.specs.Orders.{lead}
 use Rattle.mk_model.specs.Pairs.{AreDisjoint}
-use Rattle.mk_model.specs.Events.{IsSettling, IsHalting, HaveCommonColumn, IsPairOverflow}
+use Rattle.mk_model.specs.Events.{IsSettling, HaveCommonColumn, IsPairOverflow}
 use Rattle.mk_model.proofs.Journals.{first_at-append, second_at-append, IsPairOf-append, IsPairOverflow-append}
 use Rattle.mk_model.proofs.LegalEvents.{cleared_here}
 use Rattle.mk_move.specs.Moves.{Weighed}

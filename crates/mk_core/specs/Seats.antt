@@ -1,5 +1,5 @@
 -- At what a worker is that takes turns with others, and the line that it takes. (Sturmfels, chapter 1)
-use Rattle.std.specs.Prelude.{◌≡◌, ℕ, ◌<◌, List, ◌++◌, length, get_or, map, replicate, set, Some, None, ℤ}
+use Rattle.std.specs.Prelude.{◌≡◌, ℕ, ◌<◌, List, ◌++◌, length, get_or, replicate, set, Some, None}
 use Rattle.mk_model.specs.CoreStates.{Pair, claim_of, new_state, IsPairOf}
 use Rattle.mk_model.specs.Events.{HaveCommonColumn, IsPairOverflow}
 use Rattle.mk_model.specs.Overflows.{IsGenuineOverflow}

@@ -24,12 +24,7 @@ pub struct Turn {
 ///
 /// The start has at most `basis_limit` moves, and the limit is at most 65,536. Each turn's worker is below the number of
 /// workers. (Sturmfels, chapters 1 and 12: Buchberger's algorithm for a lattice)
-pub fn drive(
-    alloc: Global,
-    job: Job,
-    workers: u32,
-    schedule: &[Turn],
-) -> Result<Ledger, NoMemory>
+pub fn drive(alloc: Global, job: Job, workers: u32, schedule: &[Turn]) -> Result<Ledger, NoMemory>
     requires start { length job.start.moves ≤ job.basis_limit }
     requires limit { job.basis_limit ≤ 65536 }
     requires some { 1 ≤ workers }

@@ -148,12 +148,7 @@ fn try_third(
 }
 
 /// Reduces the difference of the pair by the worker's copy.
-fn reduce_pair(
-    alloc: Global,
-    ledger: &Ledger,
-    worker: u32,
-    seen: &Basis,
-) -> Result<Stage, NoMemory>
+fn reduce_pair(alloc: Global, ledger: &Ledger, worker: u32, seen: &Basis) -> Result<Stage, NoMemory>
     requires seat { IsAt ledger.now worker (Ready seen.now) }
     requires within { worker < ledger.now.state.workers }
     ensures { IfOk result (TakesLine ledger.now worker (Ready seen.now) ledger.now) }
@@ -168,12 +163,7 @@ fn reduce_pair(
 }
 
 /// Reduces what is left by the whole basis.
-fn reduce_again(
-    alloc: Global,
-    ledger: &Ledger,
-    worker: u32,
-    work: Work,
-) -> Result<Stage, NoMemory>
+fn reduce_again(alloc: Global, ledger: &Ledger, worker: u32, work: Work) -> Result<Stage, NoMemory>
     requires { IsAt ledger.now worker (Stale work) }
     ensures { IfOk result (TakesLine ledger.now worker (Stale work) ledger.now) }
 {

@@ -1,4 +1,4 @@
-use Rattle.std.proofs.Common.{◌≡◌, length, get_or, set, ap, sym, ◌∙◌, subst}
+use Rattle.std.proofs.Common.{sym, ◌∙◌, subst}
 use Rattle.std.proofs.lemmas.List.{set-set, get_or_default}
 use Rattle.mk_core.specs.declared.seat.Stage.TheVariants.{Gone}
 use Rattle.mk_core.specs.Seats.{TakesLine, TakesTurn}

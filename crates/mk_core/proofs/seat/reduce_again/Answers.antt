@@ -1,4 +1,4 @@
-use Rattle.std.proofs.Common.{ap, sym, subst, IfOk}
+use Rattle.std.proofs.Common.{subst, IfOk}
 use Rattle.std.proofs.lemmas.Result.{IfOk-weaker}
 use Rattle.mk_move.specs.MoveLists.{BasisView}
 use Rattle.mk_core.specs.declared.seat.Stage.TheVariants.{Stale}

@@ -1,4 +1,4 @@
-use Rattle.std.proofs.Common.{None, sym, subst}
+use Rattle.std.proofs.Common.{sym, subst}
 use Rattle.std.proofs.lemmas.Result.{IfOk-weaker}
 use Rattle.mk_model.specs.CoreStates.{pair_of}
 use Rattle.mk_move.specs.MoveLists.{vectors_of}

@@ -1,5 +1,5 @@
-use Rattle.std.proofs.Common.{◌≡◌, ◌≢◌, None, Some, length, arith, ap, sym, ◌∙◌}
-use Rattle.mk_core.proofs.Lines.{match_none, match_not_none, is_zero_claim, zero_line, is_stale, is_rest, placed_line}
+use Rattle.std.proofs.Common.{◌≡◌, None, length, arith, ap}
+use Rattle.mk_core.proofs.Lines.{match_none, match_not_none, is_zero_claim, zero_line, is_stale}
 use Rattle.mk_core.proofs.seat.settle_work.Goals as goal
 use Rattle.mk_core.proofs.seat.settle_work.Goals.{Then-is_none}
 

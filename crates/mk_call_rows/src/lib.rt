@@ -11,3 +11,5 @@ mod shown;
 mod skips;
 #[cfg(test)]
 mod solutions;
+#[cfg(test)]
+mod turns;

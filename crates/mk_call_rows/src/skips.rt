@@ -7,7 +7,7 @@ use std::alloc::AllocGlobal;
 use std::process::Abort;
 use std::test::Fail;
 
-const OVERLAPPING: &str = "3 4\n1 1 -1 -1\n1 -1 1 -1\n-1 1 1 -1\n";
+pub(crate) const OVERLAPPING: &str = "3 4\n1 1 -1 -1\n1 -1 1 -1\n-1 1 1 -1\n";
 
 // A ledger of three moves whose leads overlap, for three workers.
 fn three_workers(rt: &(impl Abort + AllocGlobal)) -> Result<Ledger, Fail> {

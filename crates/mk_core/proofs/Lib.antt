@@ -7,3 +7,6 @@ pub mod Finishing
 pub mod Completions
 pub mod Remainders
 pub mod NeededMoves
+pub mod Seats
+pub mod Lines
+pub mod Turns

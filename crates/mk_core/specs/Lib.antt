@@ -1,5 +1,6 @@
 pub mod Phases
 pub mod GoingOn
 pub mod Remainders
+pub mod Seats
 pub mod SaturatedBases
 pub mod Redundancy

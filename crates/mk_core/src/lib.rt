@@ -1,16 +1,20 @@
-//! Completion of a basis by one worker: each pair of its moves is settled, by the ledger, until every pair is joined below.
+//! Completion of a basis by one worker, or by several that take turns: each pair of its moves is settled, by the ledger, until
+//! every pair is joined below.
 #![tactic(auto)]
 
 mod completed;
 mod completion;
+mod driving;
 mod dropping;
 mod phase;
 mod saturated;
+mod seat;
 mod skipping;
 mod work;
 
 pub use completed::Completed;
 pub use completion::{LeadFinder, complete_alone, finder_of, finish_alone};
+pub use driving::{Turn, drive};
 pub use dropping::drop_redundant;
 pub use mk_ledger::{Journal, JournalEntry, Kind};
 pub use phase::{Job, Phase, Stopped};

@@ -54,7 +54,7 @@ fn third_move(ledger: &Ledger, last: Option<u32>, i: u32, j: u32) -> Option<u32>
 }
 
 /// Have the leads of two moves of the basis no column in common?
-fn have_coprime_leads(basis: &Basis, i: u32, j: u32) -> bool
+pub(crate) fn have_coprime_leads(basis: &Basis, i: u32, j: u32) -> bool
     requires first { i < length basis.now.moves }
     requires second { j < length basis.now.moves }
     ensures { IsTrue result ↔ AreDisjoint (lead (move_at (vectors_of basis.now.moves) i)) (lead (move_at (vectors_of basis.now.moves) j)) }

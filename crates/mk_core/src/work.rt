@@ -43,7 +43,7 @@ pub fn work_on(
 }
 
 /// The fault for a stop of the work on a pair, where so much was left.
-fn work_fault(i: u32, j: u32, operand: Option<Move>, stop: Stop) -> WorkFault
+pub(crate) fn work_fault(i: u32, j: u32, operand: Option<Move>, stop: Stop) -> WorkFault
     ensures { result ≡ fault_for (pair_of i j) operand stop }
 {
     match stop {

@@ -61,3 +61,4 @@ pub mod TokenCuts
 pub mod TableFaultLaws
 pub mod TableFaultFound
 pub mod TableFaultExamples
+pub mod Turns

@@ -16,5 +16,6 @@ pub mod CoreStates
 pub mod Overflows
 pub mod Events
 pub mod Legal
+pub mod Programs
 pub mod Books
 pub mod Worked

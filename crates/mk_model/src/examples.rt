@@ -29,6 +29,8 @@ ghost use Rattle.mk_model.specs.Events.Event.{Claims, Settles, Halts};
 ghost use Rattle.mk_model.specs.Books.{lists_for, BookIsComplete, BookIsUnderWay, HasStopped};
 ghost use Rattle.mk_model.specs.Books.PlainStop.{Budget};
 ghost use Rattle.mk_model.specs.Legal.{Replays, IsLegal, IsEnded};
+ghost use Rattle.mk_model.specs.Programs.{Stage, Drives};
+ghost use Rattle.mk_model.specs.Programs.Stage.{Idle, Fresh, Tests, Gone};
 ghost use Rattle.mk_model.specs.Worked.{unit_move, double_move, fourfold_move, double_lattice};
 ghost use Rattle.mk_model.specs.Worked.{cubic_top, cubic_bottom, cubic_rows, cubic_lattice, cubic_first};
 ghost use Rattle.mk_model.specs.Worked.{cubic_second, cubic_third, cubic_turned, cubic_moves};
@@ -293,6 +295,16 @@ pub fn event_examples()
         × IsEnded after }
     ensures none_left { (after : CoreState) →
         ¬ (Happens 4 column_one (with_claim begun_state 0 (pair_of 0 1)) (Claims 1) after) }
+{}
+
+/// Where two workers begin with two moves: without turns all is as before; a turn of worker 0 is its
+/// claim of (0, 1), and another one its copy of both moves; the turn of a worker that is gone changes
+/// nothing.
+pub fn turn_examples()
+    ensures no_turn { Drives 4 column_one begun_state (Idle ∷ Idle ∷ []) [] begun_state (Idle ∷ Idle ∷ []) }
+    ensures claims { Drives 4 column_one begun_state (Idle ∷ Idle ∷ []) (0 ∷ []) (with_claim begun_state 0 (pair_of 0 1)) (Fresh ∷ Idle ∷ []) }
+    ensures copies { Drives 4 column_one begun_state (Idle ∷ Idle ∷ []) (0 ∷ 0 ∷ []) (with_claim begun_state 0 (pair_of 0 1)) (Tests 2 0 0 ∷ Idle ∷ []) }
+    ensures gone { (after : CoreState) (last : List Stage) → Drives 4 column_one begun_state (Gone ∷ Idle ∷ []) (0 ∷ []) after last → after ≡ begun_state }
 {}
 
 /// Worker 0 claims (0, 1) and halts: for want of memory; since the basis has its limit of 2

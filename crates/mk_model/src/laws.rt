@@ -17,6 +17,7 @@ ghost use Rattle.mk_model.specs.ReducedBases.{IsLeast, IsReducedBasis, LighterMo
 ghost use Rattle.mk_model.specs.CoreStates.{Settle, CoreState, start_of, new_state, phase_state};
 ghost use Rattle.mk_model.specs.Events.{Event, Happens, HappenInTurn};
 ghost use Rattle.mk_model.specs.Legal.{IsNext, Replays, IsLegal, IsEnded};
+ghost use Rattle.mk_model.specs.Programs.{Stage, Drives};
 
 /// A lattice of zero rows has no move, and the answer has none.
 pub fn answer_without_rows()
@@ -289,6 +290,15 @@ pub fn events_keep_legal()
 pub fn reached_is_legal()
     ensures { (n : ℕ) (priority : List ℕ) (start : List (List ℤ)) (budget limit workers : ℕ) (events : List Event) (after : CoreState) →
         length start ≤ limit → HappenInTurn n priority (new_state start budget limit workers) events after → IsLegal n priority after }
+{}
+
+/// Whatever turns workers take, what their lines lead to happens by events, and a legal state stays
+/// legal.
+pub fn turns_happen_by_events()
+    ensures events { (n : ℕ) (priority : List ℕ) (state : CoreState) (stages : List Stage) (turns : List ℕ) (after : CoreState) (last : List Stage) →
+        Drives n priority state stages turns after last → (events : List Event) × HappenInTurn n priority state events after }
+    ensures legal { (n : ℕ) (priority : List ℕ) (state : CoreState) (stages : List Stage) (turns : List ℕ) (after : CoreState) (last : List Stage) →
+        IsLegal n priority state → Drives n priority state stages turns after last → IsLegal n priority after }
 {}
 
 /// A legal state stays legal without its workers, with any budget of at least as many pairs as

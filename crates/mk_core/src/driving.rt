@@ -1,0 +1,80 @@
+//! Completion by several workers that take turns, in the order of a schedule.
+
+ghost use Rattle.std.specs.Prelude.{◌≤◌, ◌<◌, length, map, All, IfOk, OnOk, replicate, ◌≡◌};
+ghost use Rattle.mk_core.specs.Seats.{AreSeated, IsDriven, TakesTurn};
+ghost use Rattle.mk_core.specs.declared.seat.Stage.TheVariants.{Idle};
+
+use crate::phase::Job;
+use crate::seat::{Stage, take_line};
+use mk_ledger::Ledger;
+use mk_model::NoMemory;
+use std::alloc::Global;
+use std::mem;
+
+/// A turn of a worker: one line of its program.
+#[derive(Clone, Copy, Debug, Drop, PartialEq, Eq)]
+pub struct Turn {
+    pub worker: u32,
+}
+
+/// Completes the start of a job by 1 to 64 workers, whose turns come in the order of the schedule, until it is over. At each
+/// turn the worker takes one line of its program: it claims a pair; copies the basis; settles the pair by disjoint leads or
+/// through one of at most eight third moves; reduces the pair by its copy; settles it by what is left, or reduces that again
+/// where the basis has grown; or halts. The turn of a worker that is gone changes nothing.
+///
+/// The start has at most `basis_limit` moves, and the limit is at most 65,536. Each turn's worker is below the number of
+/// workers. (Sturmfels, chapters 1 and 12: Buchberger's algorithm for a lattice)
+pub fn drive(alloc: Global, job: Job, workers: u32, schedule: &[Turn]) -> Result<Ledger, NoMemory>
+    requires start { length job.start.moves ≤ job.basis_limit }
+    requires limit { job.basis_limit ≤ 65536 }
+    requires some { 1 ≤ workers }
+    requires few { workers ≤ 64 }
+    requires turns { All (λ turn. turn.worker < workers) schedule.now }
+    ensures { IfOk result (IsDriven job workers (map (λ turn. turn.worker) schedule.now)) }
+{
+    let Job {
+        start,
+        budget,
+        basis_limit,
+    } = job;
+    let mut ledger = Ledger::new(alloc, start, budget, basis_limit, workers)?;
+    // Whoever has its basis knows that it is legal.
+    let _ = ledger.basis();
+    let mut seats = idle_seats(alloc, workers)?;
+    for turn in schedule {
+        take_turn(alloc, &mut ledger, &mut seats, turn.worker)?;
+    }
+    let _ = ledger.basis();
+    Ok(ledger)
+}
+
+/// A seat for each of so many workers, none of which has a claim.
+fn idle_seats(alloc: Global, workers: u32) -> Result<Vec<Stage>, NoMemory>
+    ensures { IfOk result (λ seats. seats.items ≡ replicate workers Idle) }
+{
+    let mut seats = Vec::with_capacity(alloc, workers as usize)?;
+    for _ in 0..workers {
+        seats.push(Stage::Idle)?;
+    }
+    Ok(seats)
+}
+
+/// Takes the line of a worker.
+fn take_turn(
+    alloc: Global,
+    ledger: &mut Ledger,
+    seats: &mut Vec<Stage>,
+    worker: u32,
+) -> Result<(), NoMemory>
+    requires seated { AreSeated ledger.old seats.old.items }
+    requires within { worker < length seats.old.items }
+    ensures { OnOk result (TakesTurn ledger.old seats.old.items worker ledger.new seats.new.items) }
+{
+    // Whoever has its basis knows that it is legal.
+    let _ = ledger.basis();
+    let stage = mem::replace(&mut seats[worker as usize], Stage::Gone);
+    let next = take_line(alloc, ledger, worker, stage)?;
+    seats[worker as usize] = next;
+    let _ = ledger.basis();
+    Ok(())
+}

@@ -1,0 +1,245 @@
+//! A worker's program, one line at a time, where several workers take turns.
+
+ghost use Rattle.std.specs.Prelude.{◌≡◌, ◌<◌, IsSome, length, IfOk};
+ghost use Rattle.mk_model.specs.CoreStates.{pair_of, claim_of, IsPairOf};
+ghost use Rattle.mk_model.specs.Events.{HaveCommonColumn};
+ghost use Rattle.mk_move.specs.MoveLists.{vectors_of};
+ghost use Rattle.mk_reduce.specs.Works.{WorkOf};
+ghost use Rattle.mk_core.specs.Remainders.{IsWorkFault};
+ghost use Rattle.mk_core.specs.Seats.{stage_of, HasReduced, IsAt, IsRestOfClaim, IsStoppingBy, IsThirdTried, PlacesRest, ReducesWork, TakesLine};
+ghost use Rattle.mk_core.specs.declared.seat.Stage.TheVariants.{Idle, Fresh, Tests, Ready, Reduced, Stale, Stopping, Gone};
+
+use crate::completion::finder_of;
+use crate::skipping::have_coprime_leads;
+use crate::work::{WorkFault, work_fault};
+use mk_criteria::chain_candidates;
+use mk_ledger::{ChainFault, Claim, Halt, Ledger, OverflowStop, PlaceFault};
+use mk_model::NoMemory;
+use mk_move::{Basis, Move};
+use mk_reduce::{Work, critical, reduce};
+use std::alloc::Global;
+
+/// At what a worker is. `Idle`: it has no claim. `Fresh`: it has one. `Tests`: it has a copy of the basis too, looks for a third
+/// move from a place on, and has tried so many. `Ready`: its pair is to be reduced by its copy. `Reduced`: it has what is left.
+/// `Stale`: the basis has more moves than reduced it. `Stopping`: an entry leaves the range. `Gone`: it does nothing more.
+#[derive(Debug, Drop)]
+pub(crate) enum Stage {
+    Idle,
+    Fresh,
+    Tests { seen: Basis, from: u32, tried: u32 },
+    Ready { seen: Basis },
+    Reduced { work: Work },
+    Stale { work: Work },
+    Stopping { stop: OverflowStop },
+    Gone,
+}
+
+/// Takes the worker's line of the program, and gives its stage afterwards.
+pub(crate) fn take_line(
+    alloc: Global,
+    ledger: &mut Ledger,
+    worker: u32,
+    stage: Stage,
+) -> Result<Stage, NoMemory>
+    requires seat { IsAt ledger.old worker stage }
+    requires within { worker < ledger.old.state.workers }
+    ensures { IfOk result (TakesLine ledger.old worker stage ledger.new) }
+{
+    match stage {
+        Stage::Idle => Ok(claim_next(ledger, worker)),
+        Stage::Fresh => copy_basis(ledger, worker),
+        Stage::Tests { seen, from, tried } => test_pair(ledger, worker, seen, from, tried),
+        Stage::Ready { seen } => reduce_pair(alloc, ledger, worker, &seen),
+        Stage::Reduced { work } => settle_work(ledger, worker, work),
+        Stage::Stale { work } => reduce_again(alloc, ledger, worker, work),
+        Stage::Stopping { stop } => Ok(halt_by(ledger, worker, stop)),
+        Stage::Gone => Ok(Stage::Gone),
+    }
+}
+
+/// Asks for a pair.
+fn claim_next(ledger: &mut Ledger, worker: u32) -> Stage
+    requires idle { claim_of ledger.old.state worker ≡ None }
+    requires within { worker < ledger.old.state.workers }
+    ensures { TakesLine ledger.old worker Idle ledger.new result }
+{
+    // Whoever has its basis knows that it is legal.
+    let _ = ledger.basis();
+    match ledger.claim(worker) {
+        Claim::Claimed { .. } => Stage::Fresh,
+        Claim::NotYet { .. } => Stage::Idle,
+        Claim::Ended => Stage::Gone,
+        Claim::OverBudget { .. } => Stage::Gone,
+        Claim::Stopped { .. } => Stage::Gone,
+    }
+}
+
+/// Copies the basis.
+fn copy_basis(ledger: &Ledger, worker: u32) -> Result<Stage, NoMemory>
+    requires { IsAt ledger.now worker Fresh }
+    ensures { IfOk result (TakesLine ledger.now worker Fresh ledger.now) }
+{
+    let seen = ledger.basis().try_copy()?;
+    Ok(Stage::Tests {
+        seen,
+        from: 0,
+        tried: 0,
+    })
+}
+
+/// The places of the worker's claim.
+fn claimed_places(ledger: &Ledger, worker: u32) -> (u32, u32)
+    requires claimed { IsSome (claim_of ledger.now.state worker) }
+    requires within { worker < ledger.now.state.workers }
+    ensures { claim_of ledger.now.state worker ≡ Some (pair_of result.0 result.1) }
+{
+    ledger.claim_of(worker).unwrap()
+}
+
+/// Settles the pair by disjoint leads, or else goes on with third moves.
+fn test_pair(
+    ledger: &mut Ledger,
+    worker: u32,
+    seen: Basis,
+    from: u32,
+    tried: u32,
+) -> Result<Stage, NoMemory>
+    requires seat { IsAt ledger.old worker (Tests seen from tried) }
+    requires within { worker < ledger.old.state.workers }
+    ensures { IfOk result (TakesLine ledger.old worker (Tests seen from tried) ledger.new) }
+{
+    let (i, j) = claimed_places(ledger, worker);
+    if have_coprime_leads(ledger.basis(), i, j) {
+        ledger.settle_coprime(worker)?;
+        return Ok(Stage::Idle);
+    }
+    if tried >= 8 {
+        return Ok(Stage::Ready { seen });
+    }
+    match chain_candidates(&seen, i, j, from) {
+        Some(k) => try_third(ledger, worker, seen, from, tried, k),
+        None => Ok(Stage::Ready { seen }),
+    }
+}
+
+/// Settles the pair through the third move, where its pairs with both are settled, or else goes on behind it.
+fn try_third(
+    ledger: &mut Ledger,
+    worker: u32,
+    seen: Basis,
+    from: u32,
+    tried: u32,
+    k: u32,
+) -> Result<Stage, NoMemory>
+    requires { IsThirdTried ledger.old worker seen from tried k }
+    ensures { IfOk result (TakesLine ledger.old worker (Tests seen from tried) ledger.new) }
+{
+    // Whoever has its basis knows that it is legal.
+    let _ = ledger.basis();
+    match ledger.settle_chain(worker, k) {
+        Ok(()) => Ok(Stage::Idle),
+        Err(ChainFault::Memory) => Err(NoMemory),
+        Err(ChainFault::Unsettled { .. }) => Ok(Stage::Tests {
+            seen,
+            from: k + 1,
+            tried: tried + 1,
+        }),
+    }
+}
+
+/// Reduces the difference of the pair by the worker's copy.
+fn reduce_pair(alloc: Global, ledger: &Ledger, worker: u32, seen: &Basis) -> Result<Stage, NoMemory>
+    requires seat { IsAt ledger.now worker (Ready seen.now) }
+    requires within { worker < ledger.now.state.workers }
+    ensures { IfOk result (TakesLine ledger.now worker (Ready seen.now) ledger.now) }
+{
+    let (i, j) = claimed_places(ledger, worker);
+    // Whoever has its basis knows that it is legal.
+    let _ = ledger.basis();
+    match critical(alloc, seen, i, j) {
+        Ok(work) => reduce_work(alloc, work, seen),
+        Err(stop) => stop_by(work_fault(i, j, None, stop)),
+    }
+}
+
+/// Reduces what is left by the whole basis.
+fn reduce_again(alloc: Global, ledger: &Ledger, worker: u32, work: Work) -> Result<Stage, NoMemory>
+    requires { IsAt ledger.now worker (Stale work) }
+    ensures { IfOk result (TakesLine ledger.now worker (Stale work) ledger.now) }
+{
+    reduce_work(alloc, work, ledger.basis())
+}
+
+/// Reduces work by a basis.
+fn reduce_work(alloc: Global, mut work: Work, basis: &Basis) -> Result<Stage, NoMemory>
+    requires { WorkOf work basis.now }
+    ensures { IfOk result (ReducesWork basis.now work) }
+{
+    let finder = finder_of(alloc, basis)?;
+    match reduce(alloc, &mut work, basis, &finder) {
+        Ok(()) => Ok(Stage::Reduced { work }),
+        Err(stop) => {
+            let (i, j) = work.pair();
+            stop_by(work_fault(i, j, work.into_remainder(), stop))
+        }
+    }
+}
+
+/// The stage of a worker whose work stopped by an overflow.
+fn stop_by(fault: WorkFault) -> Result<Stage, NoMemory>
+    ensures { IfOk result (IsStoppingBy fault) }
+{
+    match fault {
+        WorkFault::Memory => Err(NoMemory),
+        WorkFault::Overflow(stop) => Ok(Stage::Stopping { stop }),
+    }
+}
+
+/// Settles the pair by what is left, unless the basis has more moves than reduced it.
+fn settle_work(ledger: &mut Ledger, worker: u32, work: Work) -> Result<Stage, NoMemory>
+    requires { HasReduced ledger.old worker work }
+    ensures { IfOk result (TakesLine ledger.old worker (Reduced work) ledger.new) }
+{
+    // Whoever has its basis knows that it is legal.
+    let length = ledger.basis().len();
+    if work.remainder().is_none() {
+        ledger.settle_zero(worker)?;
+        return Ok(Stage::Idle);
+    }
+    if work.front() < length {
+        return Ok(Stage::Stale { work });
+    }
+    let rest = work.into_remainder().unwrap();
+    place_rest(ledger, worker, rest)
+}
+
+/// Settles the pair by what is left, oriented, or is gone where the basis is full.
+fn place_rest(ledger: &mut Ledger, worker: u32, mut rest: Move) -> Result<Stage, NoMemory>
+    requires { IsRestOfClaim ledger.old worker rest }
+    ensures { IfOk result (PlacesRest ledger.old worker rest ledger.new) }
+{
+    rest.orient(ledger.basis().priority());
+    let front = ledger.basis().len();
+    match ledger.settle_place(worker, front, rest) {
+        Ok(_) => {
+            // Whoever has its basis knows that it is legal.
+            let _ = ledger.basis();
+            Ok(Stage::Idle)
+        }
+        Err(PlaceFault::BasisFull) => Ok(Stage::Gone),
+        Err(PlaceFault::Memory { .. }) => Err(NoMemory),
+        Err(PlaceFault::Behind { .. }) => unreachable!(),
+    }
+}
+
+/// Halts for an overflow.
+fn halt_by(ledger: &mut Ledger, worker: u32, stop: OverflowStop) -> Stage
+    requires seat { IsAt ledger.old worker (Stopping stop) }
+    requires within { worker < ledger.old.state.workers }
+    ensures { TakesLine ledger.old worker (Stopping stop) ledger.new result }
+{
+    // Whoever has its basis knows that it is legal.
+    let _ = ledger.basis();
+    ledger.halt(worker, Halt::Overflow(stop));
+    Stage::Gone
+}

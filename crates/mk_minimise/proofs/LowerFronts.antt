@@ -90,14 +90,14 @@ module _ (basis : BasisView) (h : IsReducedList basis) where
     pub vectors_are : vectors_of lower.moves ≡ take count rows
     vectors_are = ap vectors_of front.moves ∙ sym (take-map (λ (m : Weighed). m.entries) count basis.moves)
 
-    pub lower_at : (k : ℕ) → k < count → move_at (vectors_of lower.moves) k ≡ move_at rows k
+    lower_at : (k : ℕ) → k < count → move_at (vectors_of lower.moves) k ≡ move_at rows k
     lower_at k l = ap (λ xs. get_or xs k []) vectors_are ∙ get_or-take count rows k [] l
 
-    pub lower_has : (k : ℕ) → k < count → Contains (vectors_of lower.moves) (move_at rows k)
+    lower_has : (k : ℕ) → k < count → Contains (vectors_of lower.moves) (move_at rows k)
     lower_has k l = subst (Contains (vectors_of lower.moves)) (lower_at k l) (Contains-get_or (vectors_of lower.moves) k [] (omega (arith, l, length-vectors_of lower.moves)))
 
     -- the place of a lower move
-    pub lower_place : (m : List ℤ) → Contains (vectors_of lower.moves) m → (k : ℕ) × (k < count) × (move_at rows k ≡ m)
+    lower_place : (m : List ℤ) → Contains (vectors_of lower.moves) m → (k : ℕ) × (k < count) × (move_at rows k ≡ m)
     lower_place m (k, l, e) =
         let within : k < count = omega (arith, l, length-vectors_of lower.moves) in
         (k, within, sym (lower_at k within) ∙ get_or_default (vectors_of lower.moves) k [] m l ∙ e)

@@ -3,3 +3,4 @@ pub mod Units
 pub mod Rows
 pub mod Sums
 pub mod Sizes
+pub mod SizesText

@@ -1,2 +1,4 @@
 pub mod Models
 pub mod Wider
+pub mod Summaries
+pub mod Parts

@@ -1,8 +1,11 @@
-//! Made tables: the lattices of tables of two or three sizes, whose rows are products of differences of neighbours.
+//! Made tables: the lattices of tables of two or three sizes, whose rows are products of differences of neighbours; and what
+//! is said of them.
 #![tactic(auto)]
 
 mod model;
+mod report;
 #[cfg(test)]
 mod tests;
 
 pub use model::model_table;
+pub use report::summary;

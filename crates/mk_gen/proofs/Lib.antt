@@ -4,3 +4,4 @@ pub mod Rows
 pub mod Sums
 pub mod Sizes
 pub mod SizesText
+pub mod Cells

@@ -2,10 +2,12 @@
 //! is said of them.
 #![tactic(auto)]
 
+mod laws;
 mod model;
 mod report;
 #[cfg(test)]
 mod tests;
 
+pub use laws::entries_of_models;
 pub use model::model_table;
 pub use report::summary;

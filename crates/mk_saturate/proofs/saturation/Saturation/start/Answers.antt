@@ -6,7 +6,7 @@ use Rattle.mk_saturate.proofs.saturation.Saturation.start.Goals as goal
 pub invariant_of-result : goal.invariant_of-result
 invariant_of-result c =
     let basis = c.in_ok-basis.basis in
-    let kept = subst (λ (b : BasisView). IsBasis b) c.basis.view_is c.basis.invariant in
+    let kept = subst (λ (b : BasisView). IsBasis b) c.basis.view_is c.basis.invariant.0 in
     let columns = ap length c.in_ok-basis.ensures.start.grading ∙ c.requires.columns in
     let left = c.in_ok-left.ensures.items_if_clones_equal (λ y e. e) ∙ ap (λ n. replicate n true) c.columns.ensures.value in
     all_left c.args.lat.now.columns basis c.in_ok-left.left.items kept columns left c.in_ok-basis.ensures.few

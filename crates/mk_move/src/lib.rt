@@ -6,6 +6,7 @@ mod basis;
 mod chain;
 mod finder;
 mod grading;
+mod in_place;
 mod leads;
 mod list;
 mod masks;

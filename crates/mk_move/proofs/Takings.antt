@@ -1,12 +1,15 @@
 -- A row from which a multiple of another is taken off in place, one bit after another, and its masks.
-use Rattle.std.proofs.Common.{◌≡◌, ◌≢◌, ◌⊎◌, ◌↔◌, inl, inr, ℕ, ◌+◌, ◌*◌, ◌/◌, ◌^◌, ◌<◌, ◌≤◌, max, Bool, true, false, IsTrue, List, All, length, get_or, set, arith, sym, ap, ◌∙◌, subst, refl, ℤ, pos, neg_ℤ, ◌-ℤ◌, ◌*ℤ◌, ◌<ℤ◌, ◌≤ℤ◌, unsigned_abs}
+use Rattle.std.proofs.Common.{◌≡◌, ◌≢◌, ◌⊎◌, ◌↔◌, inl, inr, ℕ, ◌+◌, ◌*◌, ◌/◌, ◌^◌, ◌<◌, ◌≤◌, max, ◌&&◌, ◌||◌, not, nat_eq, Result, Ok, Err, rules, Bool, true, false, IsTrue, List, All, length, set, arith, sym, ap, ◌∙◌, subst, refl, ℤ, pos, neg_ℤ, ◌-ℤ◌, ◌*ℤ◌, ◌<ℤ◌, unsigned_abs}
 use mir.Syntax.{w128}
-use mir.Val.{SFits, to_z, of_z}
+use mir.Val.{Fits, SFits, to_z, of_z}
+use Rattle.std.proofs.Math.Facts.{Fits-or}
+use Rattle.std.specs.List.{refill}
 use Rattle.std.specs.Int.{bit_at, w64}
 use Rattle.std.specs.Int.RustNames.{bit_or}
 use borrow.Author.Count.{below_more}
 use Rattle.std.proofs.Math.Nat.{div-one, mul-le-mul}
-use Rattle.std.proofs.lemmas.Bool.{cases_eq, cases_lt}
+use Rattle.std.proofs.lemmas.Bool.{cases_eq, cases_lt, false≢true}
+use Rattle.std.proofs.lemmas.Bool.Decides.{nat_tests}
 use Rattle.std.proofs.lemmas.Int.{ints, clamps, by_lt_z, to_z-of_z, unsigned_abs-mul, fits_signed_from_abs}
 use Rattle.std.proofs.lemmas.List.{length-set, get_or-set_same, get_or-set_other, get_or_past, get_or_default, ext_get_or}
 use Rattle.std.proofs.lemmas.List.Elements.{All-weaker}
@@ -14,12 +17,16 @@ use Rattle.std.proofs.lemmas.Nat.Bits.{bit_at_above, bit_at-lt, bit_at_or, bit_a
 use Rattle.mk_model.specs.Vectors.{entry, zeros, positive_part, negative_part, IsEntry}
 use Rattle.mk_model.proofs.VectorAlgebra.{lengths, same_vectors, entry-positive_part, entry-negative_part, entry-zeros, only_zeros}
 use Rattle.mk_model.proofs.Integers.{neg_ℤ-*ℤ}
-use Rattle.mk_move.specs.Masks.{block_width, block_of, HasPositive, IsMask, AreMasks}
-use Rattle.mk_move.specs.Steps.{minus_times}
-use Rattle.mk_move.specs.InPlace.{IsWide, AreBits, IsWithEntry}
+use Rattle.mk_move.specs.Masks.{block_width, block_of, IsMask, AreMasks}
+use Rattle.mk_model.specs.Overflows.{IsBeyond}
+use Rattle.mk_move.specs.Steps.{minus_times, IsOverflow}
+use Rattle.mk_move.specs.declared.steps.OverflowAt.{OverflowAt}
+use Rattle.mk_move.specs.InPlace.{IsWide, AreBits, IsWithEntry, LeavesSome, TakesOffInPlace}
 use Rattle.mk_move.specs.declared.in_place.Taken.{Taken}
 use Rattle.mk_move.proofs.Entries.{as_entry, entry_read, most_entry, abs_bounds, abs_from_bounds, IsEntry-abs}
+use Rattle.mk_move.specs.Moves.{Weighed, IsMoveKept}
 use Rattle.mk_move.proofs.Differences.{entry-minus_times}
+use Rattle.mk_move.proofs.Orientations.{refill_all}
 
 -- ---- masks by the columns themselves
 pub record AreBitMasks (x : List ℤ) (plus minus : ℕ) : Type 0 where
@@ -207,9 +214,9 @@ some_of plus minus k b =
     let one : max (bit_at plus k) (bit_at minus k) ≡ 1 = sym (bit_at_or plus minus k) ∙ b in
     elim (either_bit plus k) [ inl e ↦ inr (omega (arith, one)) | inr e ↦ inl e ]
 
-pub some_masks : (x : List ℤ) (plus minus : ℕ) → bit_or plus minus < 2 ^ 64 → AreMasks x plus minus → bit_or plus minus ≢ 0 → x ≢ zeros (length x)
-some_masks x plus minus fits h some zero =
-    let (_, set_there, _) = bit_at-trailing_zeros w64 (bit_or plus minus) (omega (arith, some)) fits in
+pub some_masks : (x : List ℤ) (plus minus : ℕ) → Fits w64 plus → Fits w64 minus → AreMasks x plus minus → bit_or plus minus ≢ 0 → x ≢ zeros (length x)
+some_masks x plus minus f g h some zero =
+    let (_, set_there, _) = bit_at-trailing_zeros w64 (bit_or plus minus) (omega (arith, some)) (Fits-or f g).fits in
     elim (some_of plus minus _ set_there) [
       | inl b ↦ let there = h.positive.covered _ b in none there.column (inl ((at_positive x there.column).0 there.positive))
       | inr b ↦ let there = h.negative.covered _ b in none there.column (inr ((at_negative x there.column).0 there.positive))
@@ -251,7 +258,6 @@ All-wide x h = All-weaker IsEntry IsWide (λ a e. omega (arith, IsEntry-abs a e)
 
 pub All-wide_difference : (x y : List ℤ) (times : ℤ) → length x ≡ length y → unsigned_abs times < 2 ^ 45 → All IsEntry x → All IsEntry y → All IsWide (minus_times x times y)
 All-wide_difference x y times l h k m c d i =
-    let here = omega (arith, lengths) in
     subst IsWide (get_or_default (minus_times x times y) c (pos 0) d i)
     (subst IsWide (sym (entry-minus_times x y times c)) (small (entry x c) times (entry y c) (k c (pos 0) (omega (arith, lengths))) h (m c (pos 0) (omega (arith, lengths)))))
   where
@@ -296,3 +302,100 @@ columns_entries x y times n row in_range l k h =
 
 pub columns_range : (x y : List ℤ) (times : ℤ) (n : ℕ) (row : List ℤ) (in_range : Bool) → length x ≤ n → IsTakenUpTo x y times n row in_range → IsTrue in_range → All IsEntry row
 columns_range x y times n row in_range k h t c d l = subst IsEntry (get_or_default row c (pos 0) d l) (h.range t c (omega (arith, h.columns)))
+
+-- ---- the move as a whole
+-- a row that a buffer of as many columns is filled with, as the entries of a move
+pub kept_row : (x y row : List ℤ) (times weight : ℤ) (plus minus : ℕ) → length x ≡ length y → length x ≤ 512 → row ≡ minus_times x times y → All IsEntry row → row ≢ zeros (length row) → AreMasks row plus minus →
+    IsMoveKept (record { entries = refill (length x) x row; weight = weight }) × AreMasks (refill (length x) x row) plus minus
+kept_row x y row times weight plus minus l few is range some masks =
+    let as_many : length row ≡ length x = ap length is ∙ omega (arith, lengths) in
+    subst (λ (r : List ℤ). IsMoveKept (record { entries = r; weight = weight }) × AreMasks r plus minus) (sym (refill_all x row as_many))
+    (record { columns = omega (arith, as_many); not_zero = some; entries = range }, masks)
+
+-- the same after it was put back
+pub kept_back : (x y row back : List ℤ) (times : ℤ) → length x ≡ length y → row ≡ minus_times x times y → back ≡ minus_times row (neg_ℤ times) y → refill (length x) x back ≡ x
+kept_back x y row back times l is again =
+    let same : back ≡ x = again ∙ ap (λ r. minus_times r (neg_ℤ times) y) is ∙ put_back x y times l in
+    refill_all x back (ap length same) ∙ same
+
+-- the negative of a quick number, as the code has it
+pub negative_read : (times : ℤ) → unsigned_abs times < 2 ^ 45 → as_entry (pos 0 -ℤ as_entry times) ≡ neg_ℤ times
+negative_read times h =
+    let bounds = abs_bounds times (2 ^ 45) (omega arith) in
+    let size : unsigned_abs (neg_ℤ times) ≤ 2 ^ 45 = abs_from_bounds (neg_ℤ times) (2 ^ 45) (omega (arith, ints, bounds.1)) (omega (arith, ints, bounds.0)) in
+    let fits : SFits w128 (neg_ℤ times) = fits_signed_from_abs w128 (neg_ℤ times) (omega (arith, size)) in
+    ap (λ z. as_entry (pos 0 -ℤ z)) (to_z-of_z w128 times (wide_fits times (omega arith))) ∙ ap (λ z. as_entry z) (zero_less times) ∙ to_z-of_z w128 (neg_ℤ times) fits
+  where
+    zero_less : (a : ℤ) → pos 0 -ℤ a ≡ neg_ℤ a
+    zero_less a = omega (arith, ints)
+
+pub both : (a b : Bool) → IsTrue (a && b) → IsTrue a × IsTrue b
+both true b t = (search rules, t)
+both false b t = absurd (search rules)
+
+-- ---- what is left, one column after another: in range, and zero unless some is said to be left
+pub record IsLeaving (x y : List ℤ) (times : ℤ) (n : ℕ) (some : Bool) : Type 0 where
+  pub range : (c : ℕ) → c < n → IsEntry (entry x c -ℤ (times *ℤ entry y c))
+  pub some_left : IsTrue some → (c : ℕ) × (entry x c -ℤ (times *ℤ entry y c) ≢ pos 0)
+  pub none_left : some ≡ false → (c : ℕ) → c < n → entry x c -ℤ (times *ℤ entry y c) ≡ pos 0
+
+pub leaving_begins : (x y : List ℤ) (times : ℤ) → IsLeaving x y times 0 false
+leaving_begins x y times = record {
+  range = λ c l. absurd (omega arith);
+  some_left = λ t. absurd (search rules);
+  none_left = λ e c l. absurd (omega arith);
+}
+
+pub leaving_goes_on : (x y : List ℤ) (times : ℤ) (n : ℕ) (before here : Bool) → IsLeaving x y times n before → IsEntry (entry x n -ℤ (times *ℤ entry y n)) →
+    (IsTrue here → entry x n -ℤ (times *ℤ entry y n) ≢ pos 0) → (here ≡ false → entry x n -ℤ (times *ℤ entry y n) ≡ pos 0) → IsLeaving x y times (n + 1) (before || here)
+leaving_goes_on x y times n before here h range some none = record {
+  range = below_more (λ c. IsEntry (entry x c -ℤ (times *ℤ entry y c))) n h.range range;
+  some_left = some_left before here h.some_left some;
+  none_left = none_left before here h.none_left none;
+}
+  where
+    some_left : (a b : Bool) → (IsTrue a → (c : ℕ) × (entry x c -ℤ (times *ℤ entry y c) ≢ pos 0)) → (IsTrue b → entry x n -ℤ (times *ℤ entry y n) ≢ pos 0) → IsTrue (a || b) → (c : ℕ) × (entry x c -ℤ (times *ℤ entry y c) ≢ pos 0)
+    some_left true b f g t = f t
+    some_left false b f g t = (n, g t)
+
+    none_left : (a b : Bool) → (a ≡ false → (c : ℕ) → c < n → entry x c -ℤ (times *ℤ entry y c) ≡ pos 0) → (b ≡ false → entry x n -ℤ (times *ℤ entry y n) ≡ pos 0) → a || b ≡ false →
+        (c : ℕ) → c < n + 1 → entry x c -ℤ (times *ℤ entry y c) ≡ pos 0
+    none_left true b f g e = absurd (false≢true (sym e))
+    none_left false b f g e = below_more (λ c. entry x c -ℤ (times *ℤ entry y c) ≡ pos 0) n (f refl) (g e)
+
+pub leaves_some_of : (x y : List ℤ) (times : ℤ) (n : ℕ) (some : Bool) → length x ≡ length y → length x ≤ n → IsLeaving x y times n some → LeavesSome x times y (Ok some)
+leaves_some_of x y times n true l k h = (not_zero (h.some_left (search rules)), range)
+  where
+    not_zero : (c : ℕ) × (entry x c -ℤ (times *ℤ entry y c) ≢ pos 0) → minus_times x times y ≢ zeros (length x)
+    not_zero (c, d) z = d (sym (entry-minus_times x y times c) ∙ ap (λ r. entry r c) z ∙ entry-zeros (length x) c)
+
+    range : All IsEntry (minus_times x times y)
+    range c d i = subst IsEntry (get_or_default (minus_times x times y) c (pos 0) d i) (subst IsEntry (sym (entry-minus_times x y times c)) (h.range c (omega (arith, lengths))))
+leaves_some_of x y times n false l k h =
+    ext_get_or (pos 0) (minus_times x times y) (zeros (length x)) (omega (arith, lengths)) (λ c i. entry-minus_times x y times c ∙ h.none_left refl c (omega (arith, lengths)) ∙ sym (entry-zeros (length x) c))
+
+-- no entry of a difference is beyond its range
+pub none_beyond : (x y : List ℤ) (times : ℤ) (at : OverflowAt) → length x ≡ length y → All IsEntry (minus_times x times y) → IsOverflow x y times at → ⊥
+none_beyond x y times at l range f = outside (subst IsEntry (entry-minus_times x y times at.column) (range at.column (pos 0) (omega (arith, lengths, f.within)))) f.beyond
+  where
+    outside : {z : ℤ} → IsEntry z → IsBeyond z → ⊥
+    outside h (inl l) = omega (arith, ints, h.0)
+    outside h (inr l) = omega (arith, ints, h.1)
+
+-- what the code reads of a number that is compared with 0
+pub isnt_zero : (v : ℤ) → IsTrue (not (nat_eq (of_z w128 v) 0)) → v ≢ pos 0
+isnt_zero v t e = absurd (none (subst (λ (z : ℤ). IsTrue (not (nat_eq (of_z w128 z) 0))) e t))
+  where
+    none : IsTrue false → ⊥
+    none h = search rules
+
+pub is_zero : (v : ℤ) → IsEntry v → not (nat_eq (of_z w128 v) 0) ≡ false → v ≡ pos 0
+is_zero v h e =
+    let same : of_z w128 v ≡ 0 = grind (arith, nat_tests) in
+    sym (entry_read v h) ∙ ap (to_z w128) same
+
+-- a step keeps the columns
+pub length-taken : (m : Weighed) (times : ℤ) (y : List ℤ) (result : Result Bool OverflowAt) (after : Weighed) → length y ≡ length m.entries → TakesOffInPlace m times y result after → length after.entries ≡ length m.entries
+length-taken m times y (Ok true) after l h = ap (λ (w : Weighed). length w.entries) h ∙ omega (arith, lengths)
+length-taken m times y (Ok false) after l h = ap (λ (w : Weighed). length w.entries) h.0
+length-taken m times y (Err at) after l h = ap (λ (w : Weighed). length w.entries) h.0

@@ -45,7 +45,8 @@ impl Move {
     pub fn take_off(&mut self, times: Entry, v: &Move) -> Result<bool, OverflowAt>
         requires columns { length v.now.entries ≡ length self.old.entries }
         requires times { IsEntry times }
-        ensures { TakesOffInPlace self.old times v.now.entries result self.new }
+        ensures taken { TakesOffInPlace self.old times v.now.entries result self.new }
+        ensures columns { length self.new.entries ≡ length self.old.entries }
     {
         if times.unsigned_abs() >= QUICK {
             return self.take_off_slowly(times, v);

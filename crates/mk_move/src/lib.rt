@@ -31,4 +31,6 @@ pub use side::Side;
 pub use steps::{OverflowAt, StepFault, subtract_times};
 
 #[cfg(test)]
+mod in_place_tests;
+#[cfg(test)]
 mod tests;

@@ -1,4 +1,4 @@
-use Rattle.std.proofs.Common.{◌≡◌, ◌<◌, ◌^◌, List, All, length, arith, rules, sym, ap, ◌∙◌, subst, ℤ, ℕ, pos, ◌-ℤ◌, ◌*ℤ◌, set}
+use Rattle.std.proofs.Common.{◌≡◌, ◌<◌, length, arith, rules, ap, ◌∙◌, subst, ℕ, pos, ◌-ℤ◌, ◌*ℤ◌}
 use mir.Syntax.{w128}
 use mir.Val.{SFits}
 use Rattle.std.proofs.lemmas.Int.{to_z-of_z}

@@ -7,3 +7,4 @@ pub mod MoreSteps
 pub mod Falls
 pub mod Reducing
 pub mod LongerBases
+pub mod Remainders

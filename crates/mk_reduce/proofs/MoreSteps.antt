@@ -26,7 +26,7 @@ add_times : (a k b : ℤ) → a -ℤ (neg_ℤ k *ℤ b) ≡ a +ℤ (k *ℤ b)
 add_times a k b = ap (λ (z : ℤ). a -ℤ z) (neg_ℤ-*ℤ k b) ∙ omega (arith, ints)
 
 -- a step, as a reduction by a member
-reduction_of : (moves : List (List ℤ)) (r next : List ℤ) (step : Step) → IsReductionStep moves r step → next ≡ after_step moves r step → IsReduction moves r next
+pub reduction_of : (moves : List (List ℤ)) (r next : List ℤ) (step : Step) → IsReductionStep moves r step → next ≡ after_step moves r step → IsReduction moves r next
 reduction_of moves r next step h e = record {
   move = move_at moves step.place;
   member = Contains-get_or moves step.place [] h.within;

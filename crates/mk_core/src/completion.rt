@@ -18,7 +18,7 @@ use crate::work::{WorkFault, work_on};
 use mk_ledger::{Claim, Halt, Ledger, LedgerParts, PlaceFault};
 use mk_model::NoMemory;
 use mk_move::{Basis, Finder, Move};
-use mk_reduce::PlainFinder;
+use mk_reduce::{PlainFinder, Scratch};
 use std::alloc::Global;
 
 /// Completes the start of a job: settles each pair of the basis, in their order, until every pair is joined below. A pair
@@ -53,7 +53,7 @@ pub fn finish_alone(alloc: Global, mut ledger: Ledger) -> Result<Completed, Stop
     ensures halted { (worker : ℕ) (halt : CoreHalt) → ledger.state.first_halted ≡ Some worker → halt_of ledger.state worker ≡ Some halt → HandsOn halt result }
 {
     let mut finder = finder_of(alloc, ledger.basis())?;
-    match settle_pairs(alloc, &mut ledger, &mut finder)? {
+    match settle_pairs(&mut ledger, &mut finder)? {
         Ending::Ended => Ok(ended(ledger)),
         Ending::OverBudget => Err(over_budget(ledger)),
         Ending::Halted => Err(stopped_by(ledger)),
@@ -80,19 +80,16 @@ pub fn finder_of(alloc: Global, basis: &Basis) -> Result<PlainFinder, NoMemory>
 }
 
 /// Settles pair after pair until no pair is claimed, and says why none is.
-fn settle_pairs(
-    alloc: Global,
-    ledger: &mut Ledger,
-    finder: &mut PlainFinder,
-) -> Result<Ending, NoMemory>
+fn settle_pairs(ledger: &mut Ledger, finder: &mut PlainFinder) -> Result<Ending, NoMemory>
     requires unclaimed { NoneClaims ledger.old.state }
     requires leads { finder.old ≡ leads_of ledger.old.basis.moves }
     ensures goes_on { OnOk result (ContinuesLedger ledger.old ledger.new) }
     ensures ending { IfOk result (EndsBy ledger.new.state) }
 {
+    let mut scratch = Scratch::new();
     loop {
         match next_pair(ledger) {
-            Ok((i, j)) => settle_pair(alloc, ledger, finder, i, j)?,
+            Ok((i, j)) => settle_pair(&mut scratch, ledger, finder, i, j)?,
             Err(ending) => return Ok(ending),
         }
     }
@@ -119,7 +116,7 @@ fn next_pair(ledger: &mut Ledger) -> Result<(u32, u32), Ending>
 /// Settles the pair that the worker has claimed: without reduction, where its leads have no column in common or a third move
 /// settles it, and else by its remainder. Or halts where an entry leaves its range or the basis is full.
 fn settle_pair(
-    alloc: Global,
+    scratch: &mut Scratch,
     ledger: &mut Ledger,
     finder: &mut PlainFinder,
     i: u32,
@@ -133,13 +130,13 @@ fn settle_pair(
     if skip_pair(ledger, i, j)? {
         return Ok(());
     }
-    reduce_pair(alloc, ledger, finder, i, j)
+    reduce_pair(scratch, ledger, finder, i, j)
 }
 
 /// Settles the pair that the worker has claimed by its remainder, or halts where an entry leaves its range or the basis is
 /// full.
 fn reduce_pair(
-    alloc: Global,
+    scratch: &mut Scratch,
     ledger: &mut Ledger,
     finder: &mut PlainFinder,
     i: u32,
@@ -151,7 +148,7 @@ fn reduce_pair(
     ensures goes_on { OnOk result (GoesOnUnclaimed ledger.old ledger.new) }
     ensures leads { OnOk result (finder.new ≡ leads_of ledger.new.basis.moves) }
 {
-    match work_on(alloc, ledger.basis(), finder, i, j) {
+    match work_on(scratch, ledger.basis(), finder, i, j) {
         Ok(Some(remainder)) => place_remainder(ledger, finder, remainder),
         Ok(None) => ledger.settle_zero(0),
         Err(WorkFault::Overflow(stop)) => {

@@ -5,7 +5,7 @@ ghost use Rattle.mk_move.specs.MoveLists.{BelongsTo, vectors_of};
 ghost use Rattle.mk_move.specs.Gradings.{AreWeights};
 ghost use Rattle.mk_reduce.specs.Works.{IsRest};
 ghost use Rattle.mk_inter.specs.Tails.{IsReducedList};
-ghost use Rattle.mk_core.specs.Remainders.{IsRemainder};
+ghost use Rattle.mk_reduce.specs.Remainders.{IsRemainder};
 ghost use Rattle.mk_minimise.specs.Minimal.{IsMinimiseFault, IsPairFault};
 ghost use Rattle.mk_minimise.specs.Overlaps.{AreOverlaps};
 ghost use Rattle.mk_minimise.specs.Stages.{weight_at, IsFront, IsAsHeavy, IsWeightRun, HasLead, TellsLeast, AreChosen};

@@ -1,5 +1,5 @@
 -- Why there is no remainder of a pair, and why the work on it stops, as a fault of the work.
-use Rattle.std.proofs.Common.{◌≡◌, List, ℤ, Option, None, refl, ap, sym, subst}
+use Rattle.std.proofs.Common.{List, ℤ, Option, None, refl, ap, sym, subst}
 use Rattle.mk_model.specs.CoreStates.{Pair}
 use Rattle.mk_model.specs.Overflows.{IsGenuineOverflow}
 use Rattle.mk_move.specs.Moves.{Weighed}

@@ -18,10 +18,10 @@ pub(crate) struct Block {
 }
 
 impl Block {
-    ghost use Rattle.std.specs.Prelude.{[], ◌∷◌, ◌++◌, ◌<◌, All, IfSome, IfNone, IfOk, OnOk, OnErr, ℕ};
+    ghost use Rattle.std.specs.Prelude.{[], ◌∷◌, ◌++◌, ◌<◌, ◌⊎◌, All, IfSome, IfNone, IfOk, OnOk, OnErr, ℕ};
     ghost use Rattle.mk_move.specs.Sides.{part_of, DividesAt};
     ghost use Rattle.mk_move.specs.Masks.{IsMask};
-    ghost use Rattle.mk_support.specs.Blocks.{HoldsIn, IsPlaced, IsRefused, IsShare, IsShareWith};
+    ghost use Rattle.mk_support.specs.Blocks.{HoldsIn, IsPlaced, IsRefused, IsShare, IsShareWith, TellsApart};
 
     /// A block without leads.
     pub(crate) fn new(alloc: Global) -> Block
@@ -77,7 +77,8 @@ impl Block {
 
     /// The lowest bit in which its masks and this one are not all the same, where it is full and there is one.
     pub(crate) fn splitting_bit(&self, mask: u64) -> Option<u32>
-        ensures { IfSome result (λ bit. bit < 64) }
+        ensures splits { IfSome result (TellsApart self.now mask) }
+        ensures none { IfNone result ((length self.now.masks.items < 16) ⊎ All (λ m. m ≡ mask) self.now.masks.items) }
     {
         if self.masks.len() < FULL {
             return None;

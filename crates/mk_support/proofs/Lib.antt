@@ -3,3 +3,4 @@ pub mod HeldLeads
 pub mod Blocks
 pub mod Searches
 pub mod Trees
+pub mod Differences

@@ -54,5 +54,5 @@ tree_more leads lead mask root new h room is_mask split gains = record {
         (mask, subst (Holds new mask) last gains.there)
 
 -- no lead divides where none of the tree does
-pub none_divides : (leads : List (List ℤ)) (root : Node) (y : List ℤ) → IsTree leads root → ((m p : ℕ) → Holds root m p → IsRefused leads y p) → All (λ lead. ¬ (Divides lead y)) leads
-none_divides leads root y h refused place other l = let (m, s) = h.each place l in refused m place s (get_or leads place other) (slice_get-get_or leads place other l)
+pub none_divides : (leads : List (List ℤ)) (root : Node) (y : List ℤ) → IsTree leads root → ((m p : ℕ) → Holds root m p → p < length leads → IsRefused leads y p) → All (λ lead. ¬ (Divides lead y)) leads
+none_divides leads root y h refused place other l = let (m, s) = h.each place l in refused m place s l (get_or leads place other) (slice_get-get_or leads place other l)

@@ -57,6 +57,7 @@ impl Finder for SupportTree {
     }
 
     fn find(&self, r: &Move, side: Side) -> Option<u32> {
-        self.root.find(&self.leads, r, side, r.mask(side))
+        self.root
+            .find(&self.leads, r, side, r.mask(side), self.count())
     }
 }

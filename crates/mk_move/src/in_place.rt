@@ -40,8 +40,8 @@ impl Move {
     }
 
     /// Becomes its difference to so many times `v`, of as many columns: true. Its weight stays, and so may be stale: see
-    /// `weigh`. It is as before where the difference is zero: false; and where an entry leaves the range, of which the first
-    /// column is named. (Sturmfels, chapter 5: a step of reduction, or the difference of a pair)
+    /// `weigh`. It is as before where the difference is zero: false; and where an entry leaves the range, of which the
+    /// first column is named. (Sturmfels, chapter 5: a step of reduction, or the difference of a pair)
     pub fn take_off(&mut self, times: Entry, v: &Move) -> Result<bool, OverflowAt>
         requires columns { length v.now.entries ≡ length self.old.entries }
         requires times { IsEntry times }
@@ -200,8 +200,8 @@ fn is_entry(value: Entry) -> bool
     value >= -ENTRY_MAX && value <= ENTRY_MAX
 }
 
-/// Takes so many times the other off a row of at most 64 columns, with these masks. The other has entries at its bits alone.
-/// Tells what is known of the row then.
+/// Takes so many times the other off a row of at most 64 columns, with these masks, and tells what is known of it then.
+/// The other has entries at its bits alone.
 fn take_off_at(
     row: &mut [Entry],
     plus: u64,

@@ -133,6 +133,6 @@ fn redundant_moves_are_dropped(rt: HostRuntime) -> Result<(), Fail> {
     let text = "3 2\n2 -2\n1 -1\n1 -1\n";
     let basis = start_of(&rt, text, None)?;
     assert_moves(&rt, &basis, text)?;
-    let kept = drop_redundant(rt.alloc(), &basis)?;
+    let kept = drop_redundant(&basis)?;
     assert_moves(&rt, &kept, "1 2\n1 -1\n")
 }

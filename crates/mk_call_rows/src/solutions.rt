@@ -62,7 +62,7 @@ fn columns_are_saturated_in_their_order(rt: HostRuntime) -> Result<(), Fail> {
         assert_eq!(rt; job.start.priority().as_slice(), list.as_slice());
         assert_moves(&rt, &job.start, moves)?;
         let completed = complete_alone(rt.alloc(), job)?;
-        saturation.accept(rt.alloc(), &completed)?;
+        saturation.accept(&completed)?;
     }
     Ok(())
 }

@@ -5,20 +5,17 @@ ghost use Rattle.mk_core.specs.Redundancy.{is_redundant_at, makes_redundant};
 
 use mk_model::NoMemory;
 use mk_move::{Basis, Move, Side, lead_divides};
-use std::alloc::Global;
 
 /// The moves of a basis that are not redundant, in their order: those whose lead no other lead divides, but for a later one
 /// that is the same. (Sturmfels, chapter 1: a minimal basis of leading terms)
-pub fn drop_redundant(alloc: Global, basis: &Basis) -> Result<Basis, NoMemory>
+pub fn drop_redundant(basis: &Basis) -> Result<Basis, NoMemory>
     ensures moves { IfOk result (λ kept. vectors_of kept.moves ≡ drop_redundant (vectors_of basis.now.moves)) }
     ensures priority { IfOk result (λ kept. kept.priority ≡ basis.now.priority) }
     ensures grading { IfOk result (λ kept. kept.grading ≡ basis.now.grading) }
     ensures few { IfOk result (λ kept. length kept.moves ≤ length basis.now.moves) }
 {
     let count = basis.len();
-    let priority = basis.priority().try_copy()?;
-    let grading = basis.grading().try_copy()?;
-    let mut kept = Basis::new(alloc, priority, grading);
+    let mut kept = basis.try_copy_bare()?;
     for place in 0..count {
         if !is_redundant_at(basis, place) {
             put_copy(&mut kept, basis.move_at(place))?;
@@ -34,10 +31,8 @@ fn put_copy(kept: &mut Basis, m: &Move) -> Result<(), NoMemory>
     ensures ok { OnOk result (kept.new ≡ record kept.old { moves = kept.old.moves ++ m.now ∷ [] }) }
     ensures err { OnErr result (kept.new ≡ kept.old) }
 {
-    match kept.push(m.try_copy()?) {
-        Ok(()) => Ok(()),
-        Err(_) => Err(NoMemory),
-    }
+    kept.push(m.try_copy()?)?;
+    Ok(())
 }
 
 /// Is the move of a place redundant: does the lead of one before it divide its lead, or a lead behind it that differs?

@@ -102,7 +102,7 @@ pub fn reduce_tails(alloc: Global, basis: &SaturatedBasis) -> Result<ReducedBasi
     let finder = finder_of(alloc, basis)?;
     let mut tails = all_tails(alloc, basis, &finder)?;
     sort_moves(&mut tails)?;
-    let reduced = basis_of(alloc, basis, tails)?;
+    let reduced = basis_of(basis, tails)?;
     Ok(ReducedBasis { basis: reduced })
 }
 
@@ -122,7 +122,7 @@ fn all_tails(alloc: Global, basis: &Basis, finder: &LeadFinder) -> Result<Vec<Mo
 }
 
 /// A basis with these moves, and the list and the grading of another.
-fn basis_of(alloc: Global, basis: &Basis, moves: Vec<Move>) -> Result<Basis, NoMemory>
+fn basis_of(basis: &Basis, moves: Vec<Move>) -> Result<Basis, NoMemory>
     requires columns { length basis.now.priority ≡ length basis.now.grading }
     requires belongs { All (BelongsTo basis.now.priority basis.now.grading) moves.items }
     requires few { length moves.items < 2 ^ 32 }
@@ -130,13 +130,9 @@ fn basis_of(alloc: Global, basis: &Basis, moves: Vec<Move>) -> Result<Basis, NoM
     ensures priority { IfOk result (λ made. made.priority ≡ basis.now.priority) }
     ensures grading { IfOk result (λ made. made.grading ≡ basis.now.grading) }
 {
-    let priority = basis.priority().try_copy()?;
-    let grading = basis.grading().try_copy()?;
-    let mut made = Basis::new(alloc, priority, grading);
+    let mut made = basis.try_copy_bare()?;
     for m in moves {
-        if made.push(m).is_err() {
-            return Err(NoMemory);
-        }
+        made.push(m)?;
     }
     Ok(made)
 }

@@ -34,10 +34,8 @@ impl Lower {
         requires { length basis.now.priority ≡ length basis.now.grading }
         ensures { IfOk result (λ lower. lower ≡ record basis.now { moves = [] }) }
     {
-        let priority = basis.priority().try_copy()?;
-        let grading = basis.grading().try_copy()?;
         Ok(Lower {
-            basis: Basis::new(alloc, priority, grading),
+            basis: basis.try_copy_bare()?,
             finder: LeadFinder::new(alloc),
         })
     }
@@ -81,9 +79,7 @@ impl Lower {
             let m = basis.move_at(place);
             finder.insert(m)?;
             let copy = m.try_copy()?;
-            if moves.push(copy).is_err() {
-                return Err(NoMemory);
-            }
+            moves.push(copy)?;
         }
         Ok(Lower {
             basis: moves,

@@ -16,7 +16,7 @@ pub use examples::{
     grading_examples, grading_fault_examples, halt_examples, journal_examples, lattice_examples,
     order_examples, overflow_examples, pair_examples, reduced_basis_examples, reduction_examples,
     redundancy_examples, saturation_examples, state_examples, table_examples, table_fault_examples,
-    text_examples, token_examples, vector_examples, walk_examples,
+    text_examples, token_examples, turn_examples, vector_examples, walk_examples,
 };
 pub use laws::{
     answer_from_components, answer_has_the_essential_moves, answer_is_unique, answer_of_one_row,
@@ -27,7 +27,7 @@ pub use laws::{
     free_columns_leave, irreducible_is_least, join_chain, join_translate, least_vector_is_unique,
     lighter_members_join, move_order_is_strict_and_total, phase_is_legal, reached_is_legal,
     reduced_basis_divides, reduced_basis_has_the_essential_moves, reduced_basis_is_markov,
-    reduced_basis_is_unique, replay_goes_on,
+    reduced_basis_is_unique, replay_goes_on, turns_happen_by_events,
 };
 pub use plain::{divides, is_below};
 use std::alloc::{AllocError, AllocFailed};

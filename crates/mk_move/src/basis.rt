@@ -15,6 +15,12 @@ pub struct PushFault {
     pub given: Move,
 }
 
+impl From<PushFault> for NoMemory {
+    fn from(_fault: PushFault) -> NoMemory {
+        NoMemory
+    }
+}
+
 /// Moves with the priority list that orients them and the grading that weighs them, all of as many columns: fewer than
 /// 2^32 moves, each with product 0. (Sturmfels, chapters 4 and 5)
 #[derive(Debug, Drop)]
@@ -73,6 +79,16 @@ impl Basis {
                 })
             }
         }
+    }
+
+    /// A basis without moves, with the same list and grading.
+    pub fn try_copy_bare(&self) -> Result<Basis, NoMemory>
+        ensures { IfOk result (λ bare. bare ≡ record self.now { moves = [] }) }
+    {
+        let alloc = *self.moves.allocator();
+        let priority = self.priority.try_copy()?;
+        let grading = self.grading.try_copy()?;
+        Ok(Basis::new(alloc, priority, grading))
     }
 
     /// How many moves it has: fewer than 2^32.

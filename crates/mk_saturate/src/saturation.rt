@@ -85,13 +85,13 @@ impl Saturation {
 
     /// Takes what completes the next job: its moves that are not redundant are the moves from now on, and its column is
     /// saturated. After a refusal all is as before.
-    pub fn accept(&mut self, alloc: Global, completed: &Completed) -> Result<(), NoMemory>
+    pub fn accept(&mut self, completed: &Completed) -> Result<(), NoMemory>
         requires { (column : ℕ) × IsLeastLeft self.old.left column × IsPhaseFromBasis self.old.basis (column ∷ others column (length self.old.basis.grading)) completed.now }
         ensures basis { OnOk result (IsDropped self.old.basis completed.now self.new.basis) }
         ensures left { OnOk result ((column : ℕ) × IsLeastLeft self.old.left column × (self.new.left ≡ set self.old.left column false)) }
         ensures err { OnErr result (self.new ≡ self.old) }
     {
-        let kept = needed(alloc, completed)?;
+        let kept = needed(completed)?;
         saturate_least(&mut self.left);
         self.basis = kept;
         Ok(())
@@ -107,14 +107,14 @@ impl Saturation {
     }
 
     /// The saturated basis that completing the last job gives: its moves that are not redundant.
-    pub fn finish(&self, alloc: Global, completed: &Completed) -> Result<SaturatedBasis, NoMemory>
+    pub fn finish(&self, completed: &Completed) -> Result<SaturatedBasis, NoMemory>
         requires none_left { NoneLeft self.now.left }
         requires last { IsPhaseFromBasis self.now.basis (standard (length self.now.basis.grading)) completed.now }
         ensures { IfOk result (IsDropped self.now.basis completed.now) }
     {
         // What a saturation keeps is known once a field is used.
         let _ = &self.basis;
-        let kept = needed(alloc, completed)?;
+        let kept = needed(completed)?;
         Ok(SaturatedBasis::new(kept))
     }
 }
@@ -135,10 +135,10 @@ fn begin(alloc: Global, lat: &Table, grading: &Grading) -> Result<Basis, NoMemor
 }
 
 /// The moves of a completed phase that are not redundant.
-fn needed(alloc: Global, completed: &Completed) -> Result<Basis, NoMemory>
+fn needed(completed: &Completed) -> Result<Basis, NoMemory>
     ensures { IfOk result (IsNeeded completed.now) }
 {
-    let kept = drop_redundant(alloc, &completed.phase().basis)?;
+    let kept = drop_redundant(&completed.phase().basis)?;
     // What a basis keeps is known once a call tells it.
     let _ = kept.len();
     Ok(kept)

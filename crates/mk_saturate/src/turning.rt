@@ -55,8 +55,6 @@ fn push_turned(turned: &mut Basis, row: &Move) -> Result<(), NoMemory>
 {
     let mut next = row.try_copy()?;
     next.orient(turned.priority());
-    match turned.push(next) {
-        Ok(()) => Ok(()),
-        Err(_) => Err(NoMemory),
-    }
+    turned.push(next)?;
+    Ok(())
 }

@@ -78,7 +78,7 @@ fn saturate_column(
     ensures { TakesColumn saturation.old job book.old result saturation.new book.new }
 {
     let completed = complete(alloc, job, book)?;
-    saturation.accept(alloc, &completed)?;
+    saturation.accept(&completed)?;
     book.push_phase(completed.into_phase())?;
     Ok(())
 }
@@ -97,7 +97,7 @@ fn finish(
     ensures { TakesLast saturation.now.basis job book.old result book.new }
 {
     let completed = complete(alloc, job, book)?;
-    let saturated = saturation.finish(alloc, &completed)?;
+    let saturated = saturation.finish(&completed)?;
     book.push_phase(completed.into_phase())?;
     Ok(saturated)
 }

@@ -145,7 +145,7 @@ fn saturate_next(alloc: Global, saturation: &mut Saturation, kinds: &mut Kinds) 
         return false;
     };
     kinds.count(&completed.phase().journal);
-    saturation.accept(alloc, &completed).is_ok()
+    saturation.accept(&completed).is_ok()
 }
 
 /// The saturated basis that the last completion gives, where no column is left; it counts the pairs.
@@ -164,7 +164,7 @@ fn complete_last(
         return None;
     };
     kinds.count(&completed.phase().journal);
-    saturation.finish(alloc, &completed).ok()
+    saturation.finish(&completed).ok()
 }
 
 /// The reduced basis and its essential moves, each with a line.

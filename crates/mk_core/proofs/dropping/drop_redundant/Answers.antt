@@ -1,12 +1,7 @@
-use Rattle.std.proofs.Common.{◌+◌, length, ap, arith, sym, ◌∙◌, subst}
+use Rattle.std.proofs.Common.{◌+◌, arith, sym, ◌∙◌, subst}
 use Rattle.mk_core.proofs.NeededMoves.{IsKeptUpTo, kept_past, kept_more, kept_all}
 use Rattle.mk_core.proofs.dropping.drop_redundant.Goals as goal
 use Rattle.mk_core.proofs.dropping.drop_redundant.Goals.{then-not-is_redundant_at+in_ok-put_copy, else-not-is_redundant_at}
-
-pub new-kept-requires : goal.new-kept-requires
-new-kept-requires c =
-    ap length c.in_ok-priority.ensures ∙ ap length c.priority.ensures ∙ c.len-count.ensures.kept.columns
-    ∙ sym (ap length c.in_ok-grading.ensures ∙ ap length c.grading.ensures)
 
 pub loop-place-preserved : goal.loop-place-preserved
 loop-place-preserved c =

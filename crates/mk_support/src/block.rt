@@ -60,7 +60,7 @@ impl Block {
         for (index, mask) in self.masks.iter().enumerate() {
             if *mask & !part == 0 {
                 let place = places[index];
-                if leads[place as usize].divides(r, side) {
+                if leads[place as usize].divides_within(r, side) {
                     return Some(place);
                 }
             }

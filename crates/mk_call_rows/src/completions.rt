@@ -1,6 +1,6 @@
 ghost use Rattle.std.specs.Prelude.{◌<◌, length, IfOk};
 ghost use Rattle.mk_model.specs.CoreStates.{pair_of};
-ghost use Rattle.mk_core.specs.Remainders.{IsNormalRest};
+ghost use Rattle.mk_reduce.specs.Remainders.{IsNormalRest};
 
 use crate::shown::{assert_moves, start_of};
 use mk_core::{

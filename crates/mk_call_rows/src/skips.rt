@@ -1,6 +1,6 @@
 use crate::completions::{ENTRIES, MOVES, answer_for, place_first};
 use crate::shown::{assert_moves, start_of};
-use mk_criteria::{chain_candidates, find_chain};
+use mk_criteria::{chain_candidates, find_chain, is_chain};
 use mk_ledger::{ChainFault, Claim, Ledger};
 use mk_move::{chain_divides, coprime_leads};
 use std::alloc::AllocGlobal;
@@ -50,6 +50,9 @@ fn third_moves_are_found(rt: HostRuntime) -> Result<(), Fail> {
     let basis = ledger.basis();
     assert_eq!(rt; basis.len(), 3);
     assert_eq!(rt; find_chain(basis, &ledger, 0, 1), None);
+    assert!(rt; !is_chain(basis, &ledger, 0, 1, 2));
+    assert_eq!(rt; ledger.settled_end(0), 2);
+    assert_eq!(rt; ledger.settled_end(2), 0);
     assert_eq!(rt; chain_candidates(basis, 0, 1, 0), Some(2));
     assert_eq!(rt; chain_candidates(basis, 1, 2, 0), Some(0));
     assert_eq!(rt; chain_candidates(basis, 1, 2, 1), None);

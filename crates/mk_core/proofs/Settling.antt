@@ -19,7 +19,7 @@ use Rattle.mk_ledger.specs.Ledgers.{LedgerView, IsLedger}
 use Rattle.mk_ledger.specs.Settlings.{IsZeroClaim, IsReductOfClaim, IsPlacing}
 use Rattle.mk_ledger.specs.declared.ledger.PlaceFault.TheVariants.{BasisFull}
 use Rattle.mk_core.specs.GoingOn.{FirstClaims, GoesOnUnclaimed}
-use Rattle.mk_core.specs.Remainders.{IsNormalRest}
+use Rattle.mk_reduce.specs.Remainders.{IsNormalRest}
 use Rattle.mk_core.proofs.Leads.{leads_more, first_leads_columns}
 use Rattle.mk_core.proofs.Endings.{some_held}
 use Rattle.mk_core.proofs.GoingOn.{settling_goes_on, halting_goes_on, none_claims}

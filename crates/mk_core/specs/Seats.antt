@@ -14,7 +14,7 @@ use Rattle.mk_ledger.specs.Ledgers.{LedgerView, IsLedger}
 use Rattle.mk_core.specs.declared.phase.Job.{Job}
 use Rattle.mk_core.specs.declared.work.WorkFault.{WorkFault}
 use Rattle.mk_core.specs.declared.work.WorkFault.TheVariants.{Memory, Overflow}
-use Rattle.mk_core.specs.Remainders.{IsNormalRest}
+use Rattle.mk_reduce.specs.Remainders.{IsNormalRest}
 use Rattle.mk_core.specs.declared.seat.Stage.{Stage}
 use Rattle.mk_core.specs.declared.seat.Stage.TheVariants.{Idle, Fresh, Tests, Ready, Reduced, Stale, Stopping, Gone}
 

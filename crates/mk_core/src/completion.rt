@@ -18,6 +18,7 @@ use crate::work::{WorkFault, work_on};
 use mk_ledger::{Claim, Halt, Ledger, LedgerParts, PlaceFault};
 use mk_model::NoMemory;
 use mk_move::{Basis, Finder, Move};
+use mk_reduce::Scratch;
 use mk_support::SupportTree;
 use std::alloc::Global;
 
@@ -53,7 +54,7 @@ pub fn finish_alone(alloc: Global, mut ledger: Ledger) -> Result<Completed, Stop
     ensures halted { (worker : ℕ) (halt : CoreHalt) → ledger.state.first_halted ≡ Some worker → halt_of ledger.state worker ≡ Some halt → HandsOn halt result }
 {
     let mut finder = finder_of(alloc, ledger.basis())?;
-    match settle_pairs(alloc, &mut ledger, &mut finder)? {
+    match settle_pairs(&mut ledger, &mut finder)? {
         Ending::Ended => Ok(ended(ledger)),
         Ending::OverBudget => Err(over_budget(ledger)),
         Ending::Halted => Err(stopped_by(ledger)),
@@ -83,20 +84,17 @@ pub fn finder_of(alloc: Global, basis: &Basis) -> Result<LeadFinder, NoMemory>
 }
 
 /// Settles pair after pair until no pair is claimed, and says why none is.
-fn settle_pairs(
-    alloc: Global,
-    ledger: &mut Ledger,
-    finder: &mut LeadFinder,
-) -> Result<Ending, NoMemory>
+fn settle_pairs(ledger: &mut Ledger, finder: &mut LeadFinder) -> Result<Ending, NoMemory>
     requires unclaimed { NoneClaims ledger.old.state }
     requires leads { finder.old ≡ leads_of ledger.old.basis.moves }
     ensures goes_on { OnOk result (ContinuesLedger ledger.old ledger.new) }
     ensures ending { IfOk result (EndsBy ledger.new.state) }
 {
+    let mut scratch = Scratch::new();
     let mut last = None;
     loop {
         match next_pair(ledger) {
-            Ok((i, j)) => settle_pair(alloc, ledger, finder, &mut last, i, j)?,
+            Ok((i, j)) => settle_pair(&mut scratch, ledger, finder, &mut last, i, j)?,
             Err(ending) => return Ok(ending),
         }
     }
@@ -124,7 +122,7 @@ fn next_pair(ledger: &mut Ledger) -> Result<(u32, u32), Ending>
 /// settles it, and else by its remainder. Or halts where an entry leaves its range or the basis is full. `last` is the third
 /// move that served last.
 fn settle_pair(
-    alloc: Global,
+    scratch: &mut Scratch,
     ledger: &mut Ledger,
     finder: &mut LeadFinder,
     last: &mut Option<u32>,
@@ -139,13 +137,13 @@ fn settle_pair(
     if skip_pair(ledger, last, i, j)? {
         return Ok(());
     }
-    reduce_pair(alloc, ledger, finder, i, j)
+    reduce_pair(scratch, ledger, finder, i, j)
 }
 
 /// Settles the pair that the worker has claimed by its remainder, or halts where an entry leaves its range or the basis is
 /// full.
 fn reduce_pair(
-    alloc: Global,
+    scratch: &mut Scratch,
     ledger: &mut Ledger,
     finder: &mut LeadFinder,
     i: u32,
@@ -157,7 +155,7 @@ fn reduce_pair(
     ensures goes_on { OnOk result (GoesOnUnclaimed ledger.old ledger.new) }
     ensures leads { OnOk result (finder.new ≡ leads_of ledger.new.basis.moves) }
 {
-    match work_on(alloc, ledger.basis(), finder, i, j) {
+    match work_on(scratch, ledger.basis(), finder, i, j) {
         Ok(Some(remainder)) => place_remainder(ledger, finder, remainder),
         Ok(None) => ledger.settle_zero(0),
         Err(WorkFault::Overflow(stop)) => {

@@ -17,13 +17,13 @@ pub struct Turn {
     pub worker: u32,
 }
 
-/// Completes the start of a job by 1 to 64 workers, whose turns come in the order of the schedule, until it is over. At each
-/// turn the worker takes one line of its program: it claims a pair; copies the basis; settles the pair by disjoint leads or
-/// through one of at most eight third moves; reduces the pair by its copy; settles it by what is left, or reduces that again
-/// where the basis has grown; or halts. The turn of a worker that is gone changes nothing.
+/// Completes the start of a job by 1 to 64 workers, as far as the turns of a schedule lead, in their order. At each turn the
+/// worker takes one line of its program: it claims a pair; copies the basis; settles the pair by disjoint leads, or through one
+/// of at most eight third moves; reduces it by its copy; settles it by what is left, or reduces that again where the basis has
+/// grown; or halts. The turn of a worker that is gone changes nothing.
 ///
 /// The start has at most `basis_limit` moves, and the limit is at most 65,536. Each turn's worker is below the number of
-/// workers. (Sturmfels, chapters 1 and 12: Buchberger's algorithm for a lattice)
+/// workers. The ledger is legal. (Sturmfels, chapters 1 and 12: Buchberger's algorithm for a lattice)
 pub fn drive(alloc: Global, job: Job, workers: u32, schedule: &[Turn]) -> Result<Ledger, NoMemory>
     requires start { length job.start.moves ≤ job.basis_limit }
     requires limit { job.basis_limit ≤ 65536 }
@@ -38,12 +38,11 @@ pub fn drive(alloc: Global, job: Job, workers: u32, schedule: &[Turn]) -> Result
         basis_limit,
     } = job;
     let mut ledger = Ledger::new(alloc, start, budget, basis_limit, workers)?;
-    // Whoever has its basis knows that it is legal.
-    let _ = ledger.basis();
     let mut seats = idle_seats(alloc, workers)?;
     for turn in schedule {
         take_turn(alloc, &mut ledger, &mut seats, turn.worker)?;
     }
+    // Whoever has its basis knows that it is legal.
     let _ = ledger.basis();
     Ok(ledger)
 }

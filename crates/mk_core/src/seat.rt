@@ -5,7 +5,7 @@ ghost use Rattle.mk_model.specs.CoreStates.{pair_of, claim_of, IsPairOf};
 ghost use Rattle.mk_model.specs.Events.{HaveCommonColumn};
 ghost use Rattle.mk_move.specs.MoveLists.{vectors_of};
 ghost use Rattle.mk_reduce.specs.Works.{WorkOf};
-ghost use Rattle.mk_core.specs.Remainders.{IsWorkFault};
+ghost use Rattle.mk_core.specs.Remainders.{IsWorkFault, fault_of_stop};
 ghost use Rattle.mk_core.specs.Seats.{stage_of, HasReduced, IsAt, IsRestOfClaim, IsStoppingBy, IsThirdTried, PlacesRest, ReducesWork, TakesLine};
 ghost use Rattle.mk_core.specs.declared.seat.Stage.TheVariants.{Idle, Fresh, Tests, Ready, Reduced, Stale, Stopping, Gone};
 
@@ -16,7 +16,7 @@ use mk_criteria::chain_candidates;
 use mk_ledger::{ChainFault, Claim, Halt, Ledger, OverflowStop, PlaceFault};
 use mk_model::NoMemory;
 use mk_move::{Basis, Move};
-use mk_reduce::{Work, critical, reduce};
+use mk_reduce::{RemainderFault, Stop, Work, critical, reduce};
 use std::alloc::Global;
 
 /// At what a worker is. `Idle`: it has no claim. `Fresh`: it has one. `Tests`: it has a copy of the basis too, looks for a third
@@ -158,7 +158,7 @@ fn reduce_pair(alloc: Global, ledger: &Ledger, worker: u32, seen: &Basis) -> Res
     let _ = ledger.basis();
     match critical(alloc, seen, i, j) {
         Ok(work) => reduce_work(alloc, work, seen),
-        Err(stop) => stop_by(work_fault(i, j, None, stop)),
+        Err(stop) => stop_by(stopped_work(i, j, None, stop)),
     }
 }
 
@@ -180,7 +180,19 @@ fn reduce_work(alloc: Global, mut work: Work, basis: &Basis) -> Result<Stage, No
         Ok(()) => Ok(Stage::Reduced { work }),
         Err(stop) => {
             let (i, j) = work.pair();
-            stop_by(work_fault(i, j, work.into_remainder(), stop))
+            stop_by(stopped_work(i, j, work.into_remainder(), stop))
+        }
+    }
+}
+
+/// The fault for a stop of the work on a pair, where so much was left.
+fn stopped_work(i: u32, j: u32, operand: Option<Move>, stop: Stop) -> WorkFault
+    ensures { result ≡ fault_of_stop (pair_of i j) operand stop }
+{
+    match stop {
+        Stop::Memory => WorkFault::Memory,
+        Stop::Overflow { by, at } => {
+            work_fault(i, j, RemainderFault::Overflow { by, operand, at })
         }
     }
 }

@@ -4,13 +4,13 @@ ghost use Rattle.std.specs.Prelude.{◌≡◌, MatchResult};
 ghost use Rattle.mk_model.specs.CoreStates.{pair_of, IsPairOf};
 ghost use Rattle.mk_move.specs.MoveLists.{vectors_of};
 ghost use Rattle.mk_reduce.specs.Leads.{leads_of};
-ghost use Rattle.mk_core.specs.Remainders.{IsRemainder, IsWorkFault, fault_for};
+ghost use Rattle.mk_reduce.specs.Remainders.{IsRemainder};
+ghost use Rattle.mk_core.specs.Remainders.{IsWorkFault, fault_for};
 
 use crate::completion::LeadFinder;
 use mk_ledger::OverflowStop;
 use mk_move::{Basis, Move};
-use mk_reduce::{Stop, critical, reduce};
-use std::alloc::Global;
+use mk_reduce::{RemainderFault, Scratch, remainder_in};
 
 /// Why the work on a pair stops: want of memory, or an entry that leaves its range.
 #[derive(Debug, Drop)]
@@ -20,9 +20,9 @@ pub enum WorkFault {
 }
 
 /// What is left of the difference of a pair of the basis, reduced by the basis: none for zero. The finder has its leads.
-/// (Sturmfels, chapters 1 and 5: the remainder of an S-pair)
+/// The difference is made and reduced in the scratch. (Sturmfels, chapters 1 and 5: the remainder of an S-pair)
 pub fn work_on(
-    alloc: Global,
+    scratch: &mut Scratch,
     basis: &Basis,
     finder: &LeadFinder,
     i: u32,
@@ -32,23 +32,19 @@ pub fn work_on(
     requires pair { IsPairOf (vectors_of basis.now.moves) (pair_of i j) }
     ensures { MatchResult result (IsRemainder basis.now (pair_of i j)) (IsWorkFault (vectors_of basis.now.moves) (pair_of i j)) }
 {
-    let mut work = match critical(alloc, basis, i, j) {
-        Ok(work) => work,
-        Err(stop) => return Err(work_fault(i, j, None, stop)),
-    };
-    match reduce(alloc, &mut work, basis, finder) {
-        Ok(()) => Ok(work.into_remainder()),
-        Err(stop) => Err(work_fault(i, j, work.into_remainder(), stop)),
+    match remainder_in(scratch, basis, finder, i, j) {
+        Ok(left) => Ok(left),
+        Err(fault) => Err(work_fault(i, j, fault)),
     }
 }
 
-/// The fault for a stop of the work on a pair, where so much was left.
-pub(crate) fn work_fault(i: u32, j: u32, operand: Option<Move>, stop: Stop) -> WorkFault
-    ensures { result ≡ fault_for (pair_of i j) operand stop }
+/// The fault where there is no remainder of a pair.
+pub(crate) fn work_fault(i: u32, j: u32, fault: RemainderFault) -> WorkFault
+    ensures { result ≡ fault_for (pair_of i j) fault }
 {
-    match stop {
-        Stop::Memory => WorkFault::Memory,
-        Stop::Overflow { by, at } => WorkFault::Overflow(OverflowStop {
+    match fault {
+        RemainderFault::Memory => WorkFault::Memory,
+        RemainderFault::Overflow { by, operand, at } => WorkFault::Overflow(OverflowStop {
             i,
             j,
             by,

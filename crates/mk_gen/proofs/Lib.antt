@@ -3,3 +3,5 @@ pub mod Units
 pub mod Rows
 pub mod Sums
 pub mod Sizes
+pub mod SizesText
+pub mod Cells

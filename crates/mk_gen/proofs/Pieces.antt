@@ -27,6 +27,12 @@ element_piece f xs front bs cs i x at e d =
     ∙ ap (λ y. front ++ flat_map f (take i xs ++ y ∷ [])) (sym (get_or_from_slice_get xs i x x at))
     ∙ ap (λ ys. front ++ flat_map f ys) (sym (take_more xs i x (slice_get_within xs i x at)))
 
+-- the piece of the element at a place
+pub place_piece : {X A : Type 0} (f : X → List A) (xs : List X) (front bs cs : List A) (i : ℕ) (d : X) → i < length xs → bs ≡ front ++ flat_map f (take i xs) → cs ≡ bs ++ f (get_or xs i d)
+    → cs ≡ front ++ flat_map f (take (i + 1) xs)
+place_piece f xs front bs cs i d h e p =
+    p ∙ ap (λ bytes. bytes ++ f (get_or xs i d)) e ∙ flat_map_more f front (take i xs) (get_or xs i d) ∙ ap (λ ys. front ++ flat_map f ys) (sym (take_more xs i d h))
+
 -- one entry more
 pub entry_piece : (k : ℤ) (row front bs cs : List ℤ) (i : ℕ) → i < length row → bs ≡ front ++ scale k (take i row) → cs ≡ bs ++ (k *ℤ get_or row i (pos 0)) ∷ []
     → cs ≡ front ++ scale k (take (i + 1) row)

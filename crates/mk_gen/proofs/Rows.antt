@@ -123,7 +123,7 @@ pub rows_of_model : (sizes : List ℕ) → rows_of (model_grid sizes) ≡ model_
 rows_of_model sizes = cut_rows (cells sizes) (model_rows sizes) (model_columns sizes)
 
 -- how many rows one size more gives
-many_rows : (n : ℕ) (sizes : List ℕ) → length (model_rows (n ∷ sizes)) ≡ (n - 1) * length (model_rows sizes)
+pub many_rows : (n : ℕ) (sizes : List ℕ) → length (model_rows (n ∷ sizes)) ≡ (n - 1) * length (model_rows sizes)
 unfolding model_rows
 many_rows n sizes =
     let rows = model_rows sizes in

@@ -1,6 +1,6 @@
 ghost use Rattle.mk_gen.specs.Models.{AreModelSizes};
 
-use crate::model_table;
+use crate::{model_table, summary};
 use mk_model::Entry;
 use std::alloc::AllocGlobal;
 use std::process::Abort;
@@ -52,4 +52,34 @@ fn the_last_row_of_a_long_table_ends_in_the_cube(rt: HostRuntime) -> Result<(), 
     row[62] = 1;
     row[63] = -1;
     assert_row(&rt, &[16, 2, 2], 15, 64, 14, &row)
+}
+
+// The summary of these numbers is this text.
+fn assert_summary(
+    rt: &(impl Abort + AllocGlobal),
+    sizes: &[u32],
+    rows: u32,
+    columns: u32,
+    weights: &[i128],
+    text: &str,
+) -> Result<(), Fail> {
+    let made = summary(rt.alloc(), sizes, rows, columns, weights)?;
+    assert_eq!(rt; made.as_str(), text);
+    Ok(())
+}
+
+#[test]
+fn summaries_are_as_written_out(rt: HostRuntime) -> Result<(), Fail> {
+    let none = "model 2x2\nrows 1 columns 4\nmoves 0\n";
+    assert_summary(&rt, &[2, 2], 1, 4, &[], none)?;
+    let one = "model 2x2\nrows 1 columns 4\nmoves 1\nweight 2 moves 1\n";
+    assert_summary(&rt, &[2, 2], 1, 4, &[2], one)?;
+    let square = "model 5x5\nrows 16 columns 25\nmoves 100\nweight 2 moves 100\n";
+    assert_summary(&rt, &[5, 5], 16, 25, &[2; 100], square)?;
+    let mut weights = [6; 81];
+    for place in 0..27 {
+        weights[place] = 4;
+    }
+    let cube = "model 3x3x3\nrows 8 columns 27\nmoves 81\nweight 4 moves 27\nweight 6 moves 54\n";
+    assert_summary(&rt, &[3, 3, 3], 8, 27, &weights, cube)
 }

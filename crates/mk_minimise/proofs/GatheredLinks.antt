@@ -24,7 +24,7 @@ use Rattle.mk_minimise.specs.declared.overlaps.Overlap.{Overlap}
 use Rattle.mk_minimise.specs.Links.{AreLower, IsLink, AreLinks}
 use Rattle.mk_minimise.specs.LinkSteps.{IsLeftOf, IsAddedLeft, IsAdded}
 use Rattle.mk_minimise.specs.Overlaps.{overlap_at, IsOverlap, IsListed, AreOverlaps}
-use Rattle.mk_core.specs.Remainders.{IsNormalRest, IsRemainder}
+use Rattle.mk_reduce.specs.Remainders.{IsNormalRest, IsRemainder}
 use Rattle.mk_minimise.specs.Stages.{weight_at, IsFront, TellsLeast}
 use Rattle.mk_minimise.proofs.LinkLaws.{link_of_pair, link_negated}
 use Rattle.mk_minimise.proofs.LeastLeads.{PairsJoined, both_oriented, lead_is_first, lead_steps_lighter}

@@ -5,7 +5,7 @@ ghost use Rattle.mk_move.specs.MoveLists.{BelongsTo, vectors_of};
 ghost use Rattle.mk_move.specs.Gradings.{AreWeights};
 ghost use Rattle.mk_reduce.specs.Works.{IsRest};
 ghost use Rattle.mk_inter.specs.Tails.{IsReducedList};
-ghost use Rattle.mk_core.specs.Remainders.{IsRemainder};
+ghost use Rattle.mk_reduce.specs.Remainders.{IsRemainder};
 ghost use Rattle.mk_minimise.specs.Minimal.{IsMinimiseFault, IsPairFault};
 ghost use Rattle.mk_minimise.specs.Stages.{weight_at, IsFront, IsAsHeavy, IsWeightRun, HasLead, TellsLeast, AreChosen};
 
@@ -16,6 +16,7 @@ use crate::overlaps::overlaps_of;
 use mk_core::{WorkFault, work_on};
 use mk_model::NoMemory;
 use mk_move::{Basis, Move, Side};
+use mk_reduce::Scratch;
 use std::alloc::Global;
 
 /// The end of the run of moves of one weight that begins at a place.
@@ -55,9 +56,10 @@ pub(crate) fn links_of(
 {
     let weight = basis.move_at(lower.len()).weight();
     let mut links = Vec::new(alloc);
+    let mut scratch = Scratch::new();
     let pairs = overlaps_of(alloc, lower.basis(), weight)?;
     for pair in &pairs {
-        if let Some(rest) = remainder_of(alloc, lower, pair.first, pair.second)? {
+        if let Some(rest) = remainder_of(&mut scratch, lower, pair.first, pair.second)? {
             add_link(alloc, rest, basis, &mut links)?;
         }
     }
@@ -65,11 +67,16 @@ pub(crate) fn links_of(
 }
 
 /// What is left of the difference of a pair of lower moves, reduced by them: none for zero.
-fn remainder_of(alloc: Global, lower: &Lower, i: u32, j: u32) -> Result<Option<Move>, MinimiseFault>
+fn remainder_of(
+    scratch: &mut Scratch,
+    lower: &Lower,
+    i: u32,
+    j: u32,
+) -> Result<Option<Move>, MinimiseFault>
     requires pair { IsPairOf (vectors_of lower.now.moves) (pair_of i j) }
     ensures { MatchResult result (IsRemainder lower.now (pair_of i j)) (IsPairFault (vectors_of lower.now.moves) (pair_of i j)) }
 {
-    match work_on(alloc, lower.basis(), lower.finder(), i, j) {
+    match work_on(scratch, lower.basis(), lower.finder(), i, j) {
         Ok(rest) => Ok(rest),
         Err(WorkFault::Memory) => Err(MinimiseFault::Memory),
         Err(WorkFault::Overflow(stop)) => Err(MinimiseFault::Overflow {

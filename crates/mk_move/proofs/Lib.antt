@@ -16,3 +16,4 @@ pub mod Blocks
 pub mod MaskTests
 pub mod MaskOrders
 pub mod Chains
+pub mod Takings

@@ -3,6 +3,7 @@ pub mod Priorities
 pub mod Moves
 pub mod Sides
 pub mod Steps
+pub mod InPlace
 pub mod MoveLists
 pub mod Masks
 pub mod Chains

@@ -6,6 +6,7 @@ mod basis;
 mod chain;
 mod finder;
 mod grading;
+mod in_place;
 mod leads;
 mod list;
 mod masks;
@@ -30,5 +31,7 @@ pub use settled::SettledPairs;
 pub use side::Side;
 pub use steps::{OverflowAt, StepFault, subtract_times};
 
+#[cfg(test)]
+mod in_place_tests;
 #[cfg(test)]
 mod tests;

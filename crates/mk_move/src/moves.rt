@@ -43,10 +43,10 @@ pub(crate) type Entries = SmallVec<Entry, INLINE>;
 /// its degree)
 #[derive(Debug, Drop)]
 pub struct Move {
-    entries: Entries,
-    weight: i128,
-    plus: u64,
-    minus: u64,
+    pub(crate) entries: Entries,
+    pub(crate) weight: i128,
+    pub(crate) plus: u64,
+    pub(crate) minus: u64,
 }
 
 impl Model for Move {

@@ -82,7 +82,7 @@ fn entries_less(
 }
 
 /// Takes so many times the other off a row of as many columns, or names the first column that leaves the range.
-fn take_off(row: &mut [Entry], times: Entry, right: &[Entry]) -> Result<(), OverflowAt>
+pub(crate) fn take_off(row: &mut [Entry], times: Entry, right: &[Entry]) -> Result<(), OverflowAt>
     requires columns { length row.old ≡ length right.now }
     requires few { length row.old ≤ 512 }
     requires left { All IsEntry row.old }
@@ -120,7 +120,7 @@ const NARROW: u128 = (1 << 126) / (ENTRY_MAX as u128 + 1);
 
 /// How many columns at the front have a product with the number that is formed: all, where the number is small; else up
 /// to the first entry that is greater in absolute value than the quotient of twice the largest entry by the number.
-fn columns_formed(times: Entry, row: &[Entry]) -> usize
+pub(crate) fn columns_formed(times: Entry, row: &[Entry]) -> usize
     requires times { IsEntry times }
     requires entries { All IsEntry row.now }
     ensures { AreFormed row.now times result }
@@ -139,7 +139,7 @@ fn columns_formed(times: Entry, row: &[Entry]) -> usize
 }
 
 /// The entry `left - times * right`, and none where it leaves the range. The product fits 128 bits.
-fn entry_less(left: Entry, times: Entry, right: Entry) -> Option<Entry>
+pub(crate) fn entry_less(left: Entry, times: Entry, right: Entry) -> Option<Entry>
     requires left { IsEntry left }
     requires times { IsEntry times }
     requires right { IsEntry right }

@@ -23,7 +23,7 @@ module _ (basis : BasisView) (h : IsBasis basis) where
   vector_is : (place : ℕ) → move_at (vectors_of basis.moves) place ≡ (get_or basis.moves place no_move).entries
   vector_is place = get_or-map (λ (m : Weighed). m.entries) basis.moves place no_move
 
-  step_down : (r : List ℤ) (step : Step) → IsLevel (grading_of basis.grading h.grading) basis.priority r → IsReductionStep (vectors_of basis.moves) r step →
+  pub step_down : (r : List ℤ) (step : Step) → IsLevel (grading_of basis.grading h.grading) basis.priority r → IsReductionStep (vectors_of basis.moves) r step →
       height basis.grading basis.priority (after_step (vectors_of basis.moves) r step) < height basis.grading basis.priority r
   step_down r step l d =
       let b = h.moves step.place no_move (omega (arith, d.within, length-vectors_of basis.moves)) in

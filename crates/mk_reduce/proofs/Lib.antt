@@ -8,3 +8,4 @@ pub mod Falls
 pub mod Reducing
 pub mod LongerBases
 pub mod Continuations
+pub mod Remainders

@@ -1,3 +1,4 @@
 pub mod Leads
 pub mod Stops
 pub mod Works
+pub mod Remainders

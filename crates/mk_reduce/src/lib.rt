@@ -4,6 +4,7 @@
 mod critical_pair;
 mod plain;
 mod reduction;
+mod remainder;
 mod step;
 mod stop;
 mod work;
@@ -11,6 +12,7 @@ mod work;
 pub use critical_pair::critical;
 pub use plain::PlainFinder;
 pub use reduction::reduce;
+pub use remainder::{RemainderFault, Scratch, remainder_in};
 pub use step::Step;
 pub use stop::Stop;
 pub use work::Work;

@@ -124,7 +124,7 @@ fn step_at(rest: &Move, basis: &Basis, place: u32, side: Side) -> Step
 }
 
 /// A step of reduction of a move, by which move and on which part is free; none exactly where it is normal.
-fn next_step<F: Finder>(rest: &Move, basis: &Basis, finder: &F) -> Option<Step>
+pub(crate) fn next_step<F: Finder>(rest: &Move, basis: &Basis, finder: &F) -> Option<Step>
     requires basis { IsBasis basis.now }
     requires leads { F.leads finder.now ≡ leads_of basis.now.moves }
     requires columns { length rest.now.entries ≡ length basis.now.grading }

@@ -2,7 +2,7 @@ ghost use Rattle.std.specs.Prelude.{◌≡◌, ◌<◌, length, All, OnOk};
 ghost use Rattle.mk_model.specs.Vectors.{IsEntry};
 ghost use Rattle.mk_reduce.specs.Leads.{leads_of};
 
-use crate::{PlainFinder, critical, reduce};
+use crate::{PlainFinder, Scratch, critical, reduce, remainder_in};
 use mk_model::Entry;
 use mk_move::{Basis, Finder, Grading, Move, Priority};
 use std::alloc::Global;
@@ -51,5 +51,27 @@ fn a_pair_is_reduced(rt: HostRuntime) -> Result<(), Fail> {
     assert_eq!(rt; normal.entry(0), 0);
     assert_eq!(rt; normal.entry(1), 1);
     assert_eq!(rt; normal.entry(2), -1);
+    Ok(())
+}
+
+#[test]
+fn pairs_are_reduced_in_one_place(rt: HostRuntime) -> Result<(), Fail> {
+    let grading = Grading::new(rt.alloc(), &[1, 1, 1])?;
+    let list = Priority::standard(rt.alloc(), 3)?;
+    let mut basis = Basis::new(rt.alloc(), list, grading);
+    let mut finder = PlainFinder::new(rt.alloc());
+    put(rt.alloc(), &[1, -1, 0], &mut basis, &mut finder)?;
+    assert_eq!(rt; basis.len(), 1);
+    put(rt.alloc(), &[2, -1, -1], &mut basis, &mut finder)?;
+    assert_eq!(rt; basis.len(), 2);
+    let mut scratch = Scratch::new();
+    let rest = remainder_in(&mut scratch, &basis, &finder, 0, 1)?;
+    assert!(rt; rest.is_some());
+    let normal = rest.unwrap();
+    assert_eq!(rt; normal.columns(), 3);
+    assert_eq!(rt; normal.entry(0), 0);
+    assert_eq!(rt; normal.entry(1), 1);
+    assert_eq!(rt; normal.entry(2), -1);
+    assert_eq!(rt; normal.weight(), 1);
     Ok(())
 }

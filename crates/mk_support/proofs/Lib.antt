@@ -4,3 +4,4 @@ pub mod Blocks
 pub mod Searches
 pub mod Replacements
 pub mod Trees
+pub mod Differences

@@ -1,5 +1,5 @@
 -- The leads that a block of a tree holds.
-use Rattle.std.specs.Prelude.{◌≡◌, ◌⊎◌, ℕ, ◌<◌, List, length, Some, slice_get, slice_index, ℤ}
+use Rattle.std.specs.Prelude.{◌≡◌, ◌≢◌, ◌⊎◌, ℕ, ◌<◌, List, Contains, length, Some, slice_get, slice_index, ℤ}
 use Rattle.std.specs.Int.{bit_at}
 use Rattle.mk_model.specs.Reductions.{Divides}
 use Rattle.mk_move.specs.Masks.{IsMask}
@@ -25,6 +25,13 @@ pub record IsPlaced (leads : List (List ℤ)) (mask place : ℕ) : Type 0 where
 -- the lead at this place doesn't divide x
 abbrev pub IsRefused : List (List ℤ) → List ℤ → ℕ → Type 0
 IsRefused leads x place = (lead : List ℤ) → slice_get leads place ≡ Some lead → ¬ (Divides lead x)
+
+-- a mask of the block and this one aren't the same in the bit
+pub record TellsApart (block : Block) (mask bit : ℕ) : Type 0 where
+  pub low : bit < 64
+  pub other : ℕ
+  pub own : Contains block.masks.items other
+  pub apart : bit_at other bit ≢ bit_at mask bit
 
 -- it has the leads of the block whose masks have this bit there
 pub record IsShare (block : Block) (bit wanted : ℕ) (share : Block) : Type 0 where

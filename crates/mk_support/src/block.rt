@@ -18,10 +18,10 @@ pub(crate) struct Block {
 }
 
 impl Block {
-    ghost use Rattle.std.specs.Prelude.{[], ◌∷◌, ◌++◌, ◌<◌, All, IfSome, IfNone, IfOk, OnOk, OnErr, ℕ};
+    ghost use Rattle.std.specs.Prelude.{[], ◌∷◌, ◌++◌, ◌<◌, ◌⊎◌, All, IfSome, IfNone, IfOk, OnOk, OnErr, ℕ};
     ghost use Rattle.mk_move.specs.Sides.{part_of, DividesAt};
     ghost use Rattle.mk_move.specs.Masks.{IsMask};
-    ghost use Rattle.mk_support.specs.Blocks.{HoldsIn, IsPlaced, IsRefused, IsShare, IsShareWith};
+    ghost use Rattle.mk_support.specs.Blocks.{HoldsIn, IsPlaced, IsRefused, IsShare, IsShareWith, TellsApart};
 
     /// A block without leads.
     pub(crate) fn new(alloc: Global) -> Block
@@ -47,20 +47,27 @@ impl Block {
         Ok(())
     }
 
-    /// The place of one of its leads that divides the part of `r` on that side, which has that mask, and none exactly
-    /// where no lead does. All leads have as many columns as `r`.
-    pub(crate) fn find(&self, leads: &[HeldLead], r: &Move, side: Side, part: u64) -> Option<u32>
+    /// The first place below `end` of one of its leads that divides the part of `r` on that side, which has that mask, and
+    /// none exactly where no lead does. All leads have as many columns as `r`.
+    pub(crate) fn find(
+        &self,
+        leads: &[HeldLead],
+        r: &Move,
+        side: Side,
+        part: u64,
+        end: u32,
+    ) -> Option<u32>
         requires columns { All (λ lead. length lead ≡ length r.now.entries) leads.now }
         requires placed { (m p : ℕ) → HoldsIn self.now m p → IsPlaced leads.now m p }
         requires part { IsMask (part_of side r.now.entries) part }
         ensures found { IfSome result (DividesAt leads.now (part_of side r.now.entries)) }
-        ensures none { IfNone result ((m p : ℕ) → HoldsIn self.now m p → IsRefused leads.now (part_of side r.now.entries) p) }
+        ensures none { IfNone result ((m p : ℕ) → HoldsIn self.now m p → p < end → IsRefused leads.now (part_of side r.now.entries) p) }
     {
         let places = self.places.as_slice();
         for (index, mask) in self.masks.iter().enumerate() {
             if *mask & !part == 0 {
                 let place = places[index];
-                if leads[place as usize].divides_within(r, side) {
+                if place < end && leads[place as usize].divides_within(r, side) {
                     return Some(place);
                 }
             }
@@ -70,7 +77,8 @@ impl Block {
 
     /// The lowest bit in which its masks and this one are not all the same, where it is full and there is one.
     pub(crate) fn splitting_bit(&self, mask: u64) -> Option<u32>
-        ensures { IfSome result (λ bit. bit < 64) }
+        ensures splits { IfSome result (TellsApart self.now mask) }
+        ensures none { IfNone result ((length self.now.masks.items < 16) ⊎ All (λ m. m ≡ mask) self.now.masks.items) }
     {
         if self.masks.len() < FULL {
             return None;

@@ -56,6 +56,7 @@ impl Finder for SupportTree {
     }
 
     fn find(&self, r: &Move, side: Side) -> Option<u32> {
-        self.children.find(&self.leads, r, side, r.mask(side))
+        self.children
+            .find(&self.leads, r, side, r.mask(side), self.count())
     }
 }

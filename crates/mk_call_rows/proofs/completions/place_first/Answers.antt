@@ -2,7 +2,7 @@ use Rattle.std.proofs.Common.{ap, ◌∙◌, subst}
 use Rattle.mk_model.specs.CoreStates.{pair_of}
 use Rattle.mk_move.specs.Moves.{IsRowOriented}
 use Rattle.mk_move.specs.MoveLists.{BasisView}
-use Rattle.mk_core.specs.Remainders.{IsNormalRest}
+use Rattle.mk_reduce.specs.Remainders.{IsNormalRest}
 use Rattle.mk_core.proofs.Settling.{belongs_oriented}
 use Rattle.mk_call_rows.proofs.completions.place_first.Goals as goal
 

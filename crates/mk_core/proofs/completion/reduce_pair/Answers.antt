@@ -7,7 +7,8 @@ use Rattle.mk_move.specs.MoveLists.{BasisView, vectors_of}
 use Rattle.mk_reduce.specs.Leads.{leads_of}
 use Rattle.mk_ledger.specs.Halts.{stop_of}
 use Rattle.mk_core.specs.declared.work.WorkFault.TheVariants.{Overflow as OverflowFault}
-use Rattle.mk_core.specs.Remainders.{IsRemainder, IsNormalRest, IsWorkFault}
+use Rattle.mk_reduce.specs.Remainders.{IsRemainder, IsNormalRest}
+use Rattle.mk_core.specs.Remainders.{IsWorkFault}
 use Rattle.mk_core.proofs.Endings.{workers_within}
 use Rattle.mk_core.proofs.Settling.{claimed_pair, zero_claim, not_halted, overflow_cause, settling_unclaimed, halting_unclaimed}
 use Rattle.mk_core.proofs.completion.reduce_pair.Goals as goal

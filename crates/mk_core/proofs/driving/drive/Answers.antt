@@ -29,4 +29,4 @@ pub returns : goal.returns
 returns c =
     let schedule = c.args.schedule.now in
     subst (λ (turns : List Turn). IsDriven c.args.job c.args.workers (map (λ (turn : Turn). turn.worker) turns) c.loop-turn.ledger) (take_all c.loop-turn.turn-index schedule c.loop-turn-test.false)
-    (driven_to_end c.args.job c.args.workers (map (λ (turn : Turn). turn.worker) (take c.loop-turn.turn-index schedule)) c.loop-turn.ledger c.loop-turn.seats.items c.basis-2.ensures.kept c.loop-turn.invariant)
+    (driven_to_end c.args.job c.args.workers (map (λ (turn : Turn). turn.worker) (take c.loop-turn.turn-index schedule)) c.loop-turn.ledger c.loop-turn.seats.items c.basis.ensures.kept c.loop-turn.invariant)

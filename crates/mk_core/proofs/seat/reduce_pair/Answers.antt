@@ -30,7 +30,7 @@ returns-in-Err c =
     let (i, j) = c.claimed_places-i.result in
     let (pair, copy, common) = c.requires.seat in
     let claimed = c.claimed_places-i.ensures in
-    let fault = subst (IsWorkFault (vectors_of seen.moves) (pair_of i j)) (sym c.work_fault.ensures) (difference_fault seen.moves (pair_of i j) c.in-Err.stop c.in-Err.ensures.refused) in
-    IfOk-weaker c.stop_by.result (IsStoppingBy c.work_fault.result) (TakesLine ledger worker (Ready seen) ledger)
-    (stops_copy ledger c.basis.ensures.kept worker seen (pair_of i j) (same_claim ledger worker seen pair (pair_of i j) copy claimed) (same_common ledger worker pair (pair_of i j) copy.claimed claimed common) c.work_fault.result fault)
+    let fault = subst (IsWorkFault (vectors_of seen.moves) (pair_of i j)) (sym c.stopped_work.ensures) (difference_fault seen.moves (pair_of i j) c.in-Err.stop c.in-Err.ensures.refused) in
+    IfOk-weaker c.stop_by.result (IsStoppingBy c.stopped_work.result) (TakesLine ledger worker (Ready seen) ledger)
+    (stops_copy ledger c.basis.ensures.kept worker seen (pair_of i j) (same_claim ledger worker seen pair (pair_of i j) copy claimed) (same_common ledger worker pair (pair_of i j) copy.claimed claimed common) c.stopped_work.result fault)
     c.stop_by.ensures

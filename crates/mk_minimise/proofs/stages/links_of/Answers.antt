@@ -8,7 +8,7 @@ use Rattle.mk_minimise.specs.declared.overlaps.Overlap.{Overlap}
 use Rattle.mk_minimise.specs.Overlaps.{AreOverlaps}
 use Rattle.mk_minimise.specs.LinkSteps.{IsAdded}
 use Rattle.mk_minimise.specs.Minimal.{IsMinimiseFault}
-use Rattle.mk_core.specs.Remainders.{IsNormalRest, IsRemainder}
+use Rattle.mk_reduce.specs.Remainders.{IsNormalRest, IsRemainder}
 use Rattle.mk_minimise.specs.Stages.{weight_at}
 use Rattle.mk_minimise.proofs.RunsOfWeight.{weight_is}
 use Rattle.mk_minimise.proofs.WideNumbers.{wide_same}

@@ -23,6 +23,7 @@ pub use finder::Finder;
 pub use grading::{Grading, GradingFault, product_of};
 pub use leads::{coprime_leads, lead_divides, times_dividing};
 pub use list::MoveList;
+pub use masks::first_bit;
 pub use moves::{Move, MoveFault};
 pub use orders::{compare_leads, move_order};
 pub use priority::Priority;

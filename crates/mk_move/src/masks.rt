@@ -26,7 +26,7 @@ pub(crate) fn masks_of(row: &[Entry]) -> (u64, u64)
 }
 
 /// The place of the lowest bit that is set, and the other bits.
-pub(crate) fn first_bit(bits: u64) -> (u32, u64)
+pub fn first_bit(bits: u64) -> (u32, u64)
     requires { bits ≢ 0 }
     ensures range { result.0 < 64 }
     ensures set { bit_at bits result.0 ≡ 1 }

@@ -1,9 +1,8 @@
 -- What the entries of a held lead are, and which vectors it divides.
-use Rattle.std.proofs.Common.{◌≡◌, ◌⊎◌, inl, inr, ℕ, ◌/◌, ◌^◌, ◌<◌, ◌≤◌, List, [], ◌∷◌, length, All, arith, sym, ap, ◌∙◌, subst, ℤ, pos, ◌≤ℤ◌, ◌<ℤ◌, w64}
-use Rattle.std.specs.Int.{bit_at, bit_not, int_max}
-use Rattle.std.specs.Int.RustNames.{bit_and}
+use Rattle.std.proofs.Common.{◌≡◌, ◌⊎◌, inl, inr, ℕ, ◌/◌, ◌<◌, ◌≤◌, List, [], ◌∷◌, length, All, arith, sym, ap, ◌∙◌, subst, ℤ, pos, ◌≤ℤ◌, ◌<ℤ◌}
+use Rattle.std.specs.Int.{bit_at, int_max}
 use Rattle.std.proofs.lemmas.Int.{ints, clamps, by_lt_z}
-use Rattle.std.proofs.lemmas.Nat.Bits.{bit_at-lt, bit_at-zero, bit_at_and, bit_at_not}
+use Rattle.std.proofs.lemmas.Nat.Bits.{bit_at-lt}
 use Rattle.std.proofs.lemmas.Bool.{cases_lt, cases_eq}
 use Rattle.std.specs.List.{AllByRecursion as ByRecursion}
 use Rattle.std.proofs.lemmas.List.{get_or_past}
@@ -13,7 +12,7 @@ use Rattle.std.proofs.Math.Nat.{div-one}
 use Rattle.mk_model.specs.Vectors.{entry, positive_part, IsEntry}
 use Rattle.mk_model.specs.Reductions.{Divides}
 use Rattle.mk_model.proofs.VectorAlgebra.{entry-positive_part, length-positive_part, same_vectors}
-use Rattle.mk_move.specs.Masks.{block_width, IsMask}
+use Rattle.mk_move.specs.Masks.{block_width, HasPositive, IsMask}
 use Rattle.mk_support.specs.declared.held.ColumnEntry.{ColumnEntry}
 use Rattle.mk_support.specs.HeldLeads.{listed_or, told, least_listed, lead_of, IsEntryOf, IsHeld, ListsFrom, Fits}
 
@@ -34,9 +33,8 @@ block_is_column n c few = let e : block_width n ≡ 1 = omega arith in ap (λ k.
 bit_set : (x : List ℤ) (mask c : ℕ) → length x ≤ 64 → IsMask x mask → pos 0 <ℤ entry x c → bit_at mask c ≡ 1
 bit_set x mask c few h p = ap (bit_at mask) (sym (block_is_column (length x) c few)) ∙ h.covers c p
 
-positive_where_set : (x : List ℤ) (mask c : ℕ) → length x ≤ 64 → IsMask x mask → bit_at mask c ≡ 1 → pos 0 <ℤ entry x c
-positive_where_set x mask c few h e =
-    let there = h.covered c e in
+positive_where : (x : List ℤ) (c : ℕ) → length x ≤ 64 → HasPositive x c → pos 0 <ℤ entry x c
+positive_where x c few there =
     subst (λ (k : ℕ). pos 0 <ℤ entry x k) (sym (block_is_column (length x) there.column few) ∙ there.there) there.positive
 
 told_many : (n mask c : ℕ) → 64 < n → told n mask c ≡ pos 0
@@ -70,7 +68,7 @@ told_below row mask c h small = elim (cases_lt 64 (length row)) [ inl l ↦ many
 
     few : length row ≤ 64 → (bit_at mask c ≡ 1) ⊎ (bit_at mask c ≡ 0) → told (length row) mask c ≡ int_max (entry row c) (pos 0)
     few l (inl e) =
-        let p : pos 0 <ℤ entry (positive_part row) c = positive_where_set (positive_part row) mask c (omega (arith, length-positive_part row)) h e in
+        let p : pos 0 <ℤ entry (positive_part row) c = positive_where (positive_part row) c (omega (arith, length-positive_part row)) (h.covered c e) in
         let q : told (length row) mask c ≡ pos 1 = told_few (length row) mask c l ∙ ap pos e in
         omega (arith, ints, clamps, p, q, small, least_few (length row) l, entry-positive_part row c)
     few l (inr e) =
@@ -135,21 +133,15 @@ listed_within entries y c other h k = go entries (recursion_from_All (Fits y) en
           subst (λ (z : ℤ). z ≤ℤ entry y c) (sym is) (go entries h.1)
     ]
 
--- a column of the one mask is one of the other
-pub bit_within : (inner outer c : ℕ) → outer < 2 ^ 64 → c < 64 → bit_and inner (bit_not w64 outer) ≡ 0 → bit_at inner c ≡ 1 → bit_at outer c ≡ 1
-bit_within inner outer c room low none set =
-    let neither : bit_at (bit_and inner (bit_not w64 outer)) c ≡ 0 = ap (λ n. bit_at n c) none ∙ bit_at-zero c in
-    omega (arith, neither, set, bit_at_and inner (bit_not w64 outer) c, bit_at_not w64 outer c room low, bit_at-lt outer c)
-
-pub divides_from : (n bits outer : ℕ) (entries : List ColumnEntry) (y : List ℤ) → outer < 2 ^ 64 → length y ≡ n → ((c : ℕ) → pos 0 ≤ℤ entry y c) → IsMask y outer → bit_and bits (bit_not w64 outer) ≡ 0 → All (Fits y) entries → Divides (lead_of n bits entries) y
-divides_from n bits outer entries y room same least g none h = record { entries = λ c. at c (cases_lt c n) }
+pub divides_from : (n bits : ℕ) (entries : List ColumnEntry) (y : List ℤ) → length y ≡ n → ((c : ℕ) → pos 0 ≤ℤ entry y c) → ((c : ℕ) → bit_at bits c ≡ 1 → HasPositive y c) → All (Fits y) entries → Divides (lead_of n bits entries) y
+divides_from n bits entries y same least some h = record { entries = λ c. at c (cases_lt c n) }
   where
     within : (c : ℕ) → c < n → told n bits c ≤ℤ entry y c
     within c l = elim (cases_lt 64 n) [
       | inl m ↦ subst (λ (z : ℤ). z ≤ℤ entry y c) (sym (told_many n bits c m)) (least c)
       | inr m ↦ elim (bit_cases bits c) [
         | inl e ↦
-            let there : pos 0 <ℤ entry y c = positive_where_set y outer c (omega arith) g (bit_within bits outer c room (omega arith) none e) in
+            let there : pos 0 <ℤ entry y c = positive_where y c (omega arith) (some c e) in
             let is : told n bits c ≡ pos 1 = told_few n bits c m ∙ ap pos e in
             omega (arith, ints, there, is)
         | inr e ↦ subst (λ (z : ℤ). z ≤ℤ entry y c) (sym (told_few n bits c m ∙ ap pos e)) (least c)

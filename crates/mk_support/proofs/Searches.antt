@@ -1,12 +1,12 @@
 -- Leads of a list that do not divide a part.
-use Rattle.std.proofs.Common.{◌≡◌, ◌≢◌, ◌∙◌, ℕ, ◌^◌, ◌<◌, List, length, get_or, All, arith, refl, sym, subst, ℤ, Option, None, Some, IfNone, false, slice_get, w64, pos, ◌<ℤ◌}
+use Rattle.std.proofs.Common.{◌≡◌, ◌≢◌, ◌⊎◌, inl, inr, ◌∙◌, ap, ℕ, ◌^◌, ◌<◌, ◌≤◌, List, length, get_or, All, arith, refl, sym, subst, ℤ, Option, None, Some, IfNone, slice_get, w64, pos, ◌<ℤ◌}
 use Rattle.std.specs.Int.{bit_at, bit_not}
 use Rattle.std.specs.Int.RustNames.{bit_and}
 use Rattle.std.proofs.lemmas.List.Elements.{All-weaker}
 use Rattle.std.proofs.lemmas.Option.{slice_get_within, slice_get_read, get_or_from_slice_get}
 use Rattle.mk_model.specs.Reductions.{Divides}
-use Rattle.std.specs.Option.{is_some}
-use Rattle.std.proofs.lemmas.Bool.{false≢true}
+use Rattle.std.proofs.lemmas.Bool.{cases_lt}
+use Rattle.std.proofs.lemmas.Nat.Bits.{bit_at-lt, bit_at-zero, bit_at_and, bit_at_not, bit_at_above}
 use Rattle.std.proofs.lemmas.Int.{ints}
 use Rattle.mk_model.specs.Vectors.{entry}
 use Rattle.mk_move.specs.Masks.{IsMask, HasPositive}
@@ -41,6 +41,21 @@ refused_by_bit leads y mask place outer bit columns placed g set clear lead at =
     let is_mask = subst (λ (x : List ℤ). IsMask x mask) (same_lead leads place placed.lead lead placed.at at) placed.is_mask in
     not_dividing_at lead y outer bit (holds_at (λ (x : List ℤ). length x ≡ length y) leads place lead columns at) (is_mask.covered bit set) g clear
 
+-- a mask that fits: where the lead has an entry, the part has one
+pub within_by_mask : (leads : List (List ℤ)) (y lead : List ℤ) (mask place outer : ℕ) → mask < 2 ^ 64 → outer < 2 ^ 64 → IsPlaced leads mask place → slice_get leads place ≡ Some lead → IsMask y outer → bit_and mask (bit_not w64 outer) ≡ 0 → (block : ℕ) → HasPositive lead block → HasPositive y block
+within_by_mask leads y lead mask place outer fits room placed at g none block there = g.covered block (bit_within (cases_lt block 64))
+  where
+    set : bit_at mask block ≡ 1
+    set =
+        let is_mask = subst (λ (x : List ℤ). IsMask x mask) (same_lead leads place placed.lead lead placed.at at) placed.is_mask in
+        subst (λ (k : ℕ). bit_at mask k ≡ 1) there.there (is_mask.covers there.column there.positive)
+
+    bit_within : (block < 64) ⊎ (64 ≤ block) → bit_at outer block ≡ 1
+    bit_within (inl low) =
+        let neither : bit_at (bit_and mask (bit_not w64 outer)) block ≡ 0 = ap (λ n. bit_at n block) none ∙ bit_at-zero block in
+        omega (arith, neither, set, bit_at_and mask (bit_not w64 outer) block, bit_at_not w64 outer block room low, bit_at-lt outer block)
+    bit_within (inr high) = absurd (omega (arith, set, bit_at_above mask 64 block fits high))
+
 -- a lead that was looked at
 pub refused_itself : (leads : List (List ℤ)) (y : List ℤ) (place : ℕ) (one : List ℤ) → slice_get leads place ≡ Some one → ¬ (Divides one y) → IsRefused leads y place
 refused_itself leads y place one e none lead at = subst (λ (x : List ℤ). ¬ (Divides x y)) (same_lead leads place one lead e at) none
@@ -58,7 +73,3 @@ as_wide side row leads h =
 pub none_then : {A B : Type 0} (found : Option ℕ) → (A → B) → IfNone found A → IfNone found B
 none_then None f h = f h
 none_then (Some place) f h = tt
-
-pub from_none : {A : Type 0} (found : Option ℕ) → false ≡ is_some found → IfNone found A → A
-from_none None e h = h
-from_none (Some place) e h = absurd (false≢true e)

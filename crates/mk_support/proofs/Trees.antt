@@ -7,7 +7,8 @@ use Rattle.mk_model.specs.Reductions.{Divides}
 use Rattle.mk_move.specs.Masks.{IsMask}
 use Rattle.mk_support.specs.declared.node.Node.{Node}
 use Rattle.mk_support.specs.Blocks.{IsPlaced, IsRefused, IsThis}
-use Rattle.mk_support.specs.Nodes.{Holds, AreSplit, Gains, IsSame}
+use Rattle.mk_support.specs.Nodes.{Gains, IsSame}
+use Rattle.mk_support.specs.FirstBits.{Has, AreByFirst}
 use Rattle.mk_support.specs.Trees.{IsTree}
 
 -- the places of a list that gains an element at its end
@@ -21,23 +22,32 @@ at_last : (leads : List (List ℤ)) (lead : List ℤ) → slice_get (leads ++ le
 at_last leads lead =
     slice_get-get_or (leads ++ lead ∷ []) (length leads) lead (omega (arith, length_push leads lead)) ∙ ap Some (get_or_push leads lead lead (length leads) refl)
 
-pub tree_same : (leads : List (List ℤ)) (root new : Node) → IsTree leads root → AreSplit new → IsSame root new → IsTree leads new
-tree_same leads root new h split same = record {
+-- a tree without leads
+pub tree_first : (children : List Node) → AreByFirst children → ((m p : ℕ) → ¬ (Has children m p)) → IsTree [] children
+tree_first children by_first none = record {
+  few = search arith;
+  by_first = by_first;
+  placed = λ m p s. absurd (none m p s);
+  each = λ p l. absurd (omega (arith, l));
+}
+
+pub tree_same : (leads : List (List ℤ)) (children new : List Node) → IsTree leads children → AreByFirst new → IsSame (Has children) (Has new) → IsTree leads new
+tree_same leads children new h by_first same = record {
   few = h.few;
-  split = split;
+  by_first = by_first;
   placed = λ m p s. h.placed m p (same.others m p s);
   each = λ p l. let (m, s) = h.each p l in (m, same.kept m p s);
 }
 
-pub tree_more : (leads : List (List ℤ)) (lead : List ℤ) (mask : ℕ) (root new : Node) → IsTree leads root → length leads + 1 < 2 ^ 32 → IsMask lead mask → AreSplit new → Gains root mask (length leads) new → IsTree (leads ++ lead ∷ []) new
-tree_more leads lead mask root new h room is_mask split gains = record {
+pub tree_more : (leads : List (List ℤ)) (lead : List ℤ) (mask : ℕ) (children new : List Node) → IsTree leads children → length leads + 1 < 2 ^ 32 → IsMask lead mask → AreByFirst new → Gains (Has children) mask (length leads) (Has new) → IsTree (leads ++ lead ∷ []) new
+tree_more leads lead mask children new h room is_mask by_first gains = record {
   few = omega (arith, room, length_push leads lead);
-  split = split;
+  by_first = by_first;
   placed = λ m p s. placed m p (gains.others m p s);
   each = λ p l. each p l (cases_lt p (length leads));
 }
   where
-    placed : (m p : ℕ) → Holds root m p ⊎ IsThis mask (length leads) m p → IsPlaced (leads ++ lead ∷ []) m p
+    placed : (m p : ℕ) → Has children m p ⊎ IsThis mask (length leads) m p → IsPlaced (leads ++ lead ∷ []) m p
     placed m p (inl s) =
         let old = h.placed m p s in
         record { lead = old.lead; at = at_push leads lead old.lead p old.at; is_mask = old.is_mask }
@@ -47,12 +57,12 @@ tree_more leads lead mask root new h room is_mask split gains = record {
       is_mask = subst (IsMask lead) (sym t.0) is_mask;
     }
 
-    each : (p : ℕ) → p < length (leads ++ lead ∷ []) → (p < length leads) ⊎ (length leads ≤ p) → (m : ℕ) × Holds new m p
+    each : (p : ℕ) → p < length (leads ++ lead ∷ []) → (p < length leads) ⊎ (length leads ≤ p) → (m : ℕ) × Has new m p
     each p l (inl k) = let (m, s) = h.each p k in (m, gains.kept m p s)
     each p l (inr k) =
         let last : length leads ≡ p = omega (arith, l, k, length_push leads lead) in
-        (mask, subst (Holds new mask) last gains.there)
+        (mask, subst (Has new mask) last gains.there)
 
 -- no lead divides where none of the tree does
-pub none_divides : (leads : List (List ℤ)) (root : Node) (y : List ℤ) → IsTree leads root → ((m p : ℕ) → Holds root m p → p < length leads → IsRefused leads y p) → All (λ lead. ¬ (Divides lead y)) leads
-none_divides leads root y h refused place other l = let (m, s) = h.each place l in refused m place s l (get_or leads place other) (slice_get-get_or leads place other l)
+pub none_divides : (leads : List (List ℤ)) (children : List Node) (y : List ℤ) → IsTree leads children → ((m p : ℕ) → Has children m p → p < length leads → IsRefused leads y p) → All (λ lead. ¬ (Divides lead y)) leads
+none_divides leads children y h refused place other l = let (m, s) = h.each place l in refused m place s l (get_or leads place other) (slice_get-get_or leads place other l)

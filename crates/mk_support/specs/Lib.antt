@@ -1,4 +1,5 @@
 pub mod HeldLeads
 pub mod Blocks
 pub mod Nodes
+pub mod FirstBits
 pub mod Trees

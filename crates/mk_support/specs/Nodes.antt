@@ -20,18 +20,18 @@ abbrev pub AreSplit : Node → Type 0
 AreSplit (Leaf block) = Unit {0}
 AreSplit (Fork' bit a with b without) = (bit < 64) × ((m p : ℕ) → Holds with m p → bit_at m bit ≡ 1) × AreSplit with × AreSplit without
 
--- it has this place with that mask besides those of the other
-pub record Gains (old : Node) (mask place : ℕ) (new : Node) : Type 0 where
-  pub kept : (m p : ℕ) → Holds old m p → Holds new m p
-  pub there : Holds new mask place
-  pub others : (m p : ℕ) → Holds new m p → Holds old m p ⊎ IsThis mask place m p
+-- The second has this place with that mask besides those of the first.
+pub record Gains (old : ℕ → ℕ → Type 0) (mask place : ℕ) (new : ℕ → ℕ → Type 0) : Type 0 where
+  pub kept : (m p : ℕ) → old m p → new m p
+  pub there : new mask place
+  pub others : (m p : ℕ) → new m p → old m p ⊎ IsThis mask place m p
 
 -- both have the same
-pub record IsSame (old new : Node) : Type 0 where
-  pub kept : (m p : ℕ) → Holds old m p → Holds new m p
-  pub others : (m p : ℕ) → Holds new m p → Holds old m p
+pub record IsSame (old new : ℕ → ℕ → Type 0) : Type 0 where
+  pub kept : (m p : ℕ) → old m p → new m p
+  pub others : (m p : ℕ) → new m p → old m p
 
 -- a tree of the places of a block and of another one
 pub record ForksTo (block : Block) (mask place : ℕ) (fork : Node) : Type 0 where
   pub split : AreSplit fork
-  pub gains : Gains (Leaf block) mask place fork
+  pub gains : Gains (HoldsIn block) mask place (Holds fork)

@@ -1,11 +1,12 @@
 -- The tree of a finder.
 use Rattle.std.specs.Prelude.{ℕ, ◌<◌, ◌^◌, List, length, ℤ}
 use Rattle.mk_support.specs.declared.node.Node.{Node}
-use Rattle.mk_support.specs.Nodes.{Holds, ArePlaced, AreSplit}
+use Rattle.mk_support.specs.Blocks.{IsPlaced}
+use Rattle.mk_support.specs.FirstBits.{Has, AreByFirst}
 
--- the tree has the place of each lead, with its mask, and no others; there are fewer than 2^32
-pub record IsTree (leads : List (List ℤ)) (root : Node) : Type 0 where
+-- the children have the place of each lead, with its mask, and no others; there are fewer than 2^32
+pub record IsTree (leads : List (List ℤ)) (children : List Node) : Type 0 where
   pub few : length leads < 2 ^ 32
-  pub split : AreSplit root
-  pub placed : ArePlaced leads root
-  pub each : (p : ℕ) → p < length leads → (m : ℕ) × Holds root m p
+  pub by_first : AreByFirst children
+  pub placed : (m p : ℕ) → Has children m p → IsPlaced leads m p
+  pub each : (p : ℕ) → p < length leads → (m : ℕ) × Has children m p

@@ -67,7 +67,7 @@ impl Block {
         for (index, mask) in self.masks.iter().enumerate() {
             if *mask & !part == 0 {
                 let place = places[index];
-                if place < end && leads[place as usize].divides(r, side) {
+                if place < end && leads[place as usize].divides_within(r, side) {
                     return Some(place);
                 }
             }

@@ -1,7 +1,8 @@
-ghost use Rattle.std.specs.Prelude.{◌≡◌, ◌≤◌, ◌<◌, ◌↔◌, length, All, IfOk, IsTrue, ℤ, pos, ◌≤ℤ◌, ◌<ℤ◌};
+ghost use Rattle.std.specs.Prelude.{◌≡◌, ◌≤◌, ◌<◌, ◌↔◌, length, All, IfOk, IsTrue, ℕ, ℤ, pos, ◌≤ℤ◌, ◌<ℤ◌};
 ghost use Rattle.std.specs.Int.{int_max};
 ghost use Rattle.mk_model.specs.Vectors.{IsEntry, positive_part};
 ghost use Rattle.mk_model.specs.Reductions.{Divides};
+ghost use Rattle.mk_move.specs.Masks.{HasPositive};
 ghost use Rattle.mk_move.specs.Sides.{part_of, entry_on};
 ghost use Rattle.mk_support.specs.HeldLeads.{ListsFrom, Fits, least_listed};
 
@@ -51,14 +52,13 @@ impl HeldLead {
         })
     }
 
-    /// Does it divide the part of `r` on that side? Both have as many columns. (Sturmfels, chapter 1)
-    pub(crate) fn divides(&self, r: &Move, side: Side) -> bool
-        requires { length self.now ≡ length r.now.entries }
+    /// Does it divide the part of `r` on that side, which has an entry in each block of columns where it has one? Both have
+    /// as many columns. (Sturmfels, chapter 1)
+    pub(crate) fn divides_within(&self, r: &Move, side: Side) -> bool
+        requires columns { length self.now ≡ length r.now.entries }
+        requires within { (block : ℕ) → HasPositive self.now block → HasPositive (part_of side r.now.entries) block }
         ensures { IsTrue result ↔ Divides self.now (part_of side r.now.entries) }
     {
-        if self.mask & !r.mask(side) != 0 {
-            return false;
-        }
         all_fit(&self.listed, r.entries(), side)
     }
 }

@@ -3,6 +3,7 @@
 
 mod bits;
 mod block;
+mod children;
 mod held;
 mod node;
 mod support_tree;

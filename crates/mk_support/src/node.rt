@@ -59,8 +59,8 @@ impl Node {
     pub(crate) fn insert(&mut self, alloc: Global, mask: u64, place: u32) -> Result<(), NoMemory>
         requires { AreSplit self.old }
         ensures split { AreSplit self.new }
-        ensures ok { OnOk result (Gains self.old mask place self.new) }
-        ensures err { OnErr result (IsSame self.old self.new) }
+        ensures ok { OnOk result (Gains (Holds self.old) mask place (Holds self.new)) }
+        ensures err { OnErr result (IsSame (Holds self.old) (Holds self.new)) }
     {
         match self {
             Node::Leaf(block) => match block.splitting_bit(mask) {

@@ -1,19 +1,18 @@
 ghost use Rattle.std.specs.Prelude.{◌≡◌, []};
 
-use crate::block::Block;
+use crate::children::Children;
 use crate::held::HeldLead;
-use crate::node::Node;
 use mk_model::NoMemory;
 use mk_move::{Finder, Move, Side};
 use std::alloc::Global;
 use std::marker::Model;
 
-/// A finder that keeps a tree of the masks of its leads, and looks at a lead where its mask fits.
-/// (Sturmfels, chapter 1: division by leading terms)
+/// A finder that keeps a tree of the masks of its leads, at its top by their lowest bits, and looks at a lead where its mask
+/// fits. (Sturmfels, chapter 1: division by leading terms)
 #[derive(Debug, Drop)]
 pub struct SupportTree {
     leads: Vec<HeldLead>,
-    root: Node,
+    children: Children,
 }
 
 impl Model for SupportTree {
@@ -24,7 +23,7 @@ impl Model for SupportTree {
 
     ghost view = { λ t. t.leads.items };
 
-    ghost invariant = { λ t. IsTree t.leads.items t.root };
+    ghost invariant = { λ t. IsTree t.leads.items t.children.by_first.items };
 }
 
 impl SupportTree {
@@ -34,7 +33,7 @@ impl SupportTree {
     {
         SupportTree {
             leads: Vec::new(alloc),
-            root: Node::Leaf(Block::new(alloc)),
+            children: Children::new(alloc),
         }
     }
 }
@@ -51,13 +50,13 @@ impl Finder for SupportTree {
         let lead = HeldLead::of(alloc, m)?;
         self.leads.reserve(1)?;
         let place = self.leads.len() as u32;
-        self.root.insert(alloc, m.mask(Side::Plus), place)?;
+        self.children.insert(alloc, m.mask(Side::Plus), place)?;
         self.leads.push(lead)?;
         Ok(())
     }
 
     fn find(&self, r: &Move, side: Side) -> Option<u32> {
-        self.root
+        self.children
             .find(&self.leads, r, side, r.mask(side), self.count())
     }
 }

@@ -4,9 +4,9 @@ use Rattle.std.proofs.lemmas.Bool.{false≢true}
 use Rattle.std.proofs.lemmas.Option.{slice_get_within}
 use Rattle.mk_move.specs.Sides.{part_of}
 use Rattle.mk_support.specs.Blocks.{HoldsIn, IsPlaced, IsRefused}
-use Rattle.mk_support.proofs.Searches.{as_wide, holds_at, read_at, refused_by_mask, refused_itself}
+use Rattle.mk_support.proofs.Searches.{as_wide, holds_at, read_at, refused_by_mask, within_by_mask, refused_itself}
 use Rattle.mk_support.proofs.block.Block.find.Goals as goal
-use Rattle.mk_support.proofs.block.Block.find.Goals.{In-loop-index, then-mask-part-eq0+else-place-end, else-mask-part-eq0, else-place-end-via-then-place-end+else-divides, else-place-end-via-else-place-end}
+use Rattle.mk_support.proofs.block.Block.find.Goals.{In-loop-index, then-mask-part-eq0+else-place-end, else-mask-part-eq0, else-place-end-via-then-place-end+else-divides_within, else-place-end-via-else-place-end}
 
 -- the mask of the loop, and its place
 abbrev mask : In-loop-index → ℕ
@@ -36,19 +36,25 @@ wide : (c : In-loop-index) → All (λ lead. length lead ≡ length (part_of c.a
 wide c = as_wide c.args.side c.args.r.now.entries c.args.leads.now c.requires.columns
 
 -- src/block.rt:63:20
-pub divides-requires : goal.divides-requires
-divides-requires c =
-    let w = (goal.at.divides-requires c).In-loop-index in
+pub divides_within-requires-clause-columns : goal.divides_within-requires-clause-columns
+divides_within-requires-clause-columns c =
+    let w = (goal.at.divides_within-requires-clause-columns c).In-loop-index in
     holds_at (λ (x : List ℤ). length x ≡ length c.args.r.now.entries) c.args.leads.now (place w) c.index-leads-place.result c.requires.columns (read_at c.args.leads.now (place w) c.index-leads-place.result (placed w) c.index-leads-place.is)
 
+-- src/block.rt:63:20
+pub divides_within-requires-clause-within : goal.divides_within-requires-clause-within
+divides_within-requires-clause-within c =
+    let w = (goal.at.divides_within-requires-clause-within c).In-loop-index in
+    within_by_mask c.args.leads.now (part_of c.args.side c.args.r.now.entries) c.index-leads-place.result (mask w) (place w) c.args.part (c.type_inv.mask-items c.loop-index.index).fits c.ranges.part.fits (placed w) (read_at c.args.leads.now (place w) c.index-leads-place.result (placed w) c.index-leads-place.is) c.requires.part c.if-mask-part-eq0.true
+
 -- src/block.rt:64:21
-pub returns-then-divides-clause-found : goal.returns-then-divides-clause-found
-returns-then-divides-clause-found c =
-    let w = (goal.at.returns-then-divides-clause-found c).In-loop-index in
+pub returns-then-divides_within-clause-found : goal.returns-then-divides_within-clause-found
+returns-then-divides_within-clause-found c =
+    let w = (goal.at.returns-then-divides_within-clause-found c).In-loop-index in
     record {
       lead = c.index-leads-place.result;
       at = read_at c.args.leads.now (place w) c.index-leads-place.result (placed w) c.index-leads-place.is;
-      divides = c.if-divides.ensures.0 (search rules);
+      divides = c.if-divides_within.ensures.0 (search rules);
     }
 
 -- src/block.rt:60:9
@@ -59,10 +65,10 @@ loop-index-preserved c =
     (elim c.if-mask-part-eq0.branch [
       | then-mask-part-eq0+else-place-end v ↦
           elim v.else-place-end.branch [
-            | else-place-end-via-then-place-end+else-divides u ↦
+            | else-place-end-via-then-place-end+else-divides_within u ↦
                 λ _.
                 refused_itself c.args.leads.now (part_of c.args.side c.args.r.now.entries) (place w) u.index-leads-place.result
-                (read_at c.args.leads.now (place w) u.index-leads-place.result (placed w) u.index-leads-place.is) (λ d. false≢true (u.if-divides.ensures.1 d))
+                (read_at c.args.leads.now (place w) u.index-leads-place.result (placed w) u.index-leads-place.is) (λ d. false≢true (u.if-divides_within.ensures.1 d))
             | else-place-end-via-else-place-end u ↦ λ l. absurd (omega (arith, l, u.if-place-end.false))
           ]
       | else-mask-part-eq0 v ↦

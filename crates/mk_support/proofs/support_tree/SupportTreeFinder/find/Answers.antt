@@ -10,11 +10,11 @@ use Rattle.mk_support.proofs.support_tree.SupportTreeFinder.find.Goals as goal
 pub returns-clause-none : goal.returns-clause-none
 returns-clause-none c =
     let leads = c.self.inside.leads.items in
-    let root = c.self.inside.root in
+    let children = c.self.inside.children.by_first.items in
     let part = part_of c.args.side c.args.r.now.entries in
     let count_is : c.count.result ≡ length leads = c.count.ensures ∙ ap length (sym c.self.view_is) in
     none_then c.find.result
     (λ refused.
     subst (All (λ (lead : List ℤ). ¬ (Divides lead part))) c.self.view_is
-    (none_divides leads root part c.self.invariant (λ m p s l.
+    (none_divides leads children part c.self.invariant (λ m p s l.
     subst (λ (x : List (List ℤ)). IsRefused x part p) c.deref.ensures.value (refused m p s (omega (arith, count_is, l)))))) c.find.ensures.none

@@ -2,3 +2,5 @@ pub mod Names
 pub mod Steps
 pub mod Lines
 pub mod DigitsRead
+pub mod GivenWords
+pub mod SizesRead

@@ -150,8 +150,11 @@ unfolding GoesOn
 ended_plain words done read = ended words done next.Plain read refl (λ more h. h)
 
 -- the rest of a list that is mapped, at an item of it and at its end
-pub rest_at : {A : Type 0} (f : A → Word) (xs : List A) (i : ℕ) (x : A) → i < length xs → x ≡ get_or xs i x → map f (drop i xs) ≡ f x ∷ map f (drop (i + 1) xs)
-rest_at f xs i x lt e = ap (map f) (drop-cons xs i x lt) ∙ ap (λ t. map f (t ∷ drop (suc i) xs)) (sym e) ∙ ap (λ k. f x ∷ map f (drop k xs)) (sym (add-one i))
+pub rest_from : {A B : Type 0} (f : A → B) (xs : List A) (i : ℕ) (d : A) → i < length xs → map f (drop i xs) ≡ f (get_or xs i d) ∷ map f (drop (i + 1) xs)
+rest_from f xs i d lt = ap (map f) (drop-cons xs i d lt) ∙ ap (λ k. f (get_or xs i d) ∷ map f (drop k xs)) (sym (add-one i))
 
-pub rest_at_end : {A : Type 0} (f : A → Word) (xs : List A) (i : ℕ) → length xs ≤ i → map f (drop i xs) ≡ []
+pub rest_at : {A B : Type 0} (f : A → B) (xs : List A) (i : ℕ) (x : A) → i < length xs → x ≡ get_or xs i x → map f (drop i xs) ≡ f x ∷ map f (drop (i + 1) xs)
+rest_at f xs i x lt e = rest_from f xs i x lt ∙ ap (λ t. f t ∷ map f (drop (i + 1) xs)) (sym e)
+
+pub rest_at_end : {A B : Type 0} (f : A → B) (xs : List A) (i : ℕ) → length xs ≤ i → map f (drop i xs) ≡ []
 rest_at_end f xs i le = ap (map f) (drop_all i xs le)

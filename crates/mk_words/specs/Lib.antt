@@ -2,4 +2,4 @@ pub mod Words
 pub mod Kinds
 pub mod Reading
 pub mod Requests
-pub mod Numbers
+pub mod Found

@@ -1,5 +1,5 @@
 -- What the words of the command line ask for.
-use Rattle.std.specs.Prelude.{◌≡◌, ◌⊎◌, ℕ, ◌*◌, ◌<◌, ◌≤◌, Bool, true, false, if◌then◌else◌, List, [], ◌∷◌, ◌++◌, length, Option, Some, None, All}
+use Rattle.std.specs.Prelude.{◌≡◌, ◌⊎◌, ℕ, ◌*◌, ◌<◌, ◌≤◌, Bool, true, false, if◌then◌else◌, List, [], ◌∷◌, ◌++◌, length, Option, Some, None}
 use Rattle.std.specs.List.{AllZip, flat_map}
 use Rattle.std.specs.Str.Parse.{digits_value}
 use Rattle.mk_model.specs.Tables.{AreDigits}
@@ -38,8 +38,8 @@ plains_of pieces = flat_map plain_of pieces
 pub record IsNumberIn (least most : ℕ) (word : Word) (n : ℕ) : Type 0 where
   pub digits : AreDigits word
   pub value : n ≡ digits_value 10 word
-  pub least : least ≤ n
-  pub most : n ≤ most
+  pub above : least ≤ n
+  pub below : n ≤ most
 
 -- the number of an option that is given at most once: its value, and else the default
 abbrev pub IsChosen : ℕ → ℕ → ℕ → List Word → ℕ → Type 0
@@ -64,14 +64,16 @@ abbrev pub product : List ℕ → ℕ
 product [] = 1
 product (n ∷ numbers) = n * product numbers
 
--- the word writes these sizes: two or three numbers from 2 to 16 with `x` between them, of a product of at most 512
-pub record AreSizes (word : Word) (numbers : List ℕ) : Type 0 where
-  pub words : List Word
-  pub whole : word ≡ with_crosses words
+-- the words write two or three numbers from 2 to 16, of a product of at most 512
+pub record WriteSizes (words : List Word) (numbers : List ℕ) : Type 0 where
   pub each : AllZip (IsNumberIn 2 16) words numbers
   pub some : 2 ≤ length numbers
   pub few : length numbers ≤ 3
   pub small : product numbers ≤ 512
+
+-- the word writes such numbers with `x` between them
+abbrev pub AreSizes : Word → List ℕ → Type 0
+AreSizes word numbers = (words : List Word) × (word ≡ with_crosses words) × WriteSizes words numbers
 
 -- the task: the one plain word is a project, and is not empty; or there are the sizes of a model and no plain word
 abbrev pub IsTask : List Word → List Word → Task → Type 0
@@ -91,3 +93,11 @@ pub record IsRequest (words : List Word) (request : Request) : Type 0 where
   pub pieces : List Piece
   pub line : IsLine words pieces
   pub asked : Asks pieces request
+
+-- the words ask for nothing: they are not in the language
+abbrev pub AreWrong : List Word → Type 0
+AreWrong words = (request : Request) → IsRequest words request → ⊥
+
+-- the words are not in the language, or ask for one worker
+abbrev pub WantOne : List Word → Type 0
+WantOne words = AreWrong words ⊎ ((request : Request) × IsRequest words request × (request.workers ≡ 1))

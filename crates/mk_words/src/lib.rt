@@ -2,9 +2,12 @@
 #![tactic(auto)]
 
 mod kinds;
+mod language;
 mod numbers;
 mod pieces;
 mod request;
+mod values;
 
 pub use kinds::Setting;
+pub use language::{read_words, wants_one};
 pub use request::{ProjectName, Request, Sizes, Task, UsageFault};

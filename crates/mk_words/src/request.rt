@@ -1,5 +1,7 @@
 //! What a command line asks for.
 
+ghost use Rattle.std.specs.Prelude.{◌≡◌};
+
 use mk_model::NoMemory;
 use std::alloc::AllocError;
 use std::marker::Model;

@@ -4,3 +4,4 @@ pub mod Lines
 pub mod DigitsRead
 pub mod GivenWords
 pub mod SizesRead
+pub mod Determined

@@ -30,7 +30,7 @@ refuses_value s w is words all h = h.0 is
 option_no_plain : (w : Word) → IsOptionWord w → (v : Word) → v ≡ w → ¬ (IsOptionWord v) → ⊥
 option_no_plain w is v e isnt = isnt (subst IsOptionWord (sym e) is)
 
-whole_end : (w : Word) (words : List Word) (all : List Piece) → w ≡ end_of_options → GoesOn (w ∷ words) next.Any all → (more : List Piece) × (all ≡ more) × GoesOn words next.Plain more
+pub whole_end : (w : Word) (words : List Word) (all : List Piece) → w ≡ end_of_options → GoesOn (w ∷ words) next.Any all → (more : List Piece) × (all ≡ more) × GoesOn words next.Plain more
 unfolding GoesOn
 whole_end w words all e (inl p) = (all, refl, p.1)
 whole_end w words all e (inr (inl p)) = absurd (name_no_end p.0 (sym p.1 ∙ e))
@@ -44,7 +44,7 @@ takes_end w e = record {
   whole = λ words all h. whole_end w words all e h;
 }
 
-whole_bare : (s : Setting) (w : Word) (words : List Word) (all : List Piece) → w ≡ name_of s → GoesOn (w ∷ words) next.Any all → (more : List Piece) × (all ≡ more) × GoesOn words (next.Value s) more
+pub whole_bare : (s : Setting) (w : Word) (words : List Word) (all : List Piece) → w ≡ name_of s → GoesOn (w ∷ words) next.Any all → (more : List Piece) × (all ≡ more) × GoesOn words (next.Value s) more
 unfolding GoesOn
 whole_bare s w words all e (inl p) = absurd (name_no_end s (sym e ∙ p.0))
 whole_bare s w words all e (inr (inl p)) = (all, refl, subst (λ (t : Setting). GoesOn words (next.Value t) all) (same_name p.0 s (sym p.1 ∙ e)) p.2)
@@ -63,7 +63,7 @@ same_pair s t v u e st =
     let values : with_value s v ≡ with_value s u = e ∙ ap (λ x. with_value x u) (sym st) in
     let same : v ≡ u = same_value s v u values in cc
 
-whole_both : (s : Setting) (v w : Word) (words : List Word) (all : List Piece) → w ≡ with_value s v → GoesOn (w ∷ words) next.Any all → (more : List Piece) × (all ≡ option s v ∷ more) × GoesOn words next.Any more
+pub whole_both : (s : Setting) (v w : Word) (words : List Word) (all : List Piece) → w ≡ with_value s v → GoesOn (w ∷ words) next.Any all → (more : List Piece) × (all ≡ option s v ∷ more) × GoesOn words next.Any more
 unfolding GoesOn
 whole_both s v w words all e (inl p) = absurd (both_no_end s v (sym e ∙ p.0))
 whole_both s v w words all e (inr (inl p)) = absurd (name_no_both p.0 s v (sym p.1 ∙ e))
@@ -78,7 +78,7 @@ takes_both s v w e = record {
   whole = λ words all h. whole_both s v w words all e h;
 }
 
-whole_word : (w : Word) (words : List Word) (all : List Piece) → ¬ (IsOptionWord w) → GoesOn (w ∷ words) next.Any all → (more : List Piece) × (all ≡ plain w ∷ more) × GoesOn words next.Any more
+pub whole_word : (w : Word) (words : List Word) (all : List Piece) → ¬ (IsOptionWord w) → GoesOn (w ∷ words) next.Any all → (more : List Piece) × (all ≡ plain w ∷ more) × GoesOn words next.Any more
 unfolding GoesOn
 whole_word w words all isnt (inl p) = absurd (isnt (subst IsOptionWord (sym p.0) end_is_option))
 whole_word w words all isnt (inr (inl p)) = absurd (isnt (subst IsOptionWord (sym p.1) (name_is_option p.0)))

@@ -1,0 +1,13 @@
+use Rattle.std.proofs.Common.{map, string_bytes, subst}
+use Rattle.mk_words.specs.Reading.{piece_of}
+use Rattle.mk_words.proofs.Determined.{no_line, no_request}
+use Rattle.mk_words.proofs.language.read_words.Goals as goal
+
+pub returns-in_default-clause-words : goal.returns-in_default-clause-words
+returns-in_default-clause-words c = λ is. no_line (map string_bytes c.args.words.now) (rw c.in_default.is at c.in_ok-parts.ensures)
+
+pub returns-clause-words : goal.returns-clause-words
+returns-clause-words c = λ is.
+    let line = rw c.in-Some.is at c.in_ok-parts.ensures in
+    no_request (map string_bytes c.args.words.now) (map piece_of c.in-Some.parts.items) line
+    (rw c.as_slice.ensures.value at c.request_of.ensures.words is)

@@ -1,7 +1,6 @@
 -- Words are a line of the same pieces only, and ask for one thing only.
-use Rattle.std.proofs.Common.{◌≡◌, ◌≤◌, ◌<◌, ℕ, List, [], ◌∷◌, ◌++◌, length, inl, inr, refl, sym, ap, subst, ◌∙◌, IsTrue, nat_eq, eq-eqb, arith}
+use Rattle.std.proofs.Common.{◌≡◌, ℕ, List, [], ◌∷◌, inl, inr, sym, ap, subst, ◌∙◌, IsTrue, nat_eq, eq-eqb}
 use Rattle.std.proofs.lemmas.Bool.{eqb-true}
-use Rattle.mk_words.specs.declared.kinds.Setting.{Setting}
 use Rattle.mk_words.specs.declared.kinds.Setting.TheVariants.{Workers}
 use Rattle.mk_words.specs.declared.pieces.Next.{Next}
 use Rattle.mk_words.specs.declared.pieces.Next.TheVariants as next
@@ -10,7 +9,7 @@ use Rattle.mk_words.specs.declared.request.Task.{Task}
 use Rattle.mk_words.specs.declared.request.Task.TheVariants as task
 use Rattle.mk_words.specs.Words.{Word, Piece, option, plain, IsLine}
 use Rattle.mk_words.specs.Reading.{GoesOn, IsOnlyLine, IsNoLine}
-use Rattle.mk_words.specs.Requests.{IsNumberIn, IsChosen, IsTask, AreSizes, Asks, IsRequest, AreWrong, WantOne, values_of}
+use Rattle.mk_words.specs.Requests.{IsChosen, IsTask, AreSizes, Asks, IsRequest, AreWrong, WantOne, values_of}
 use Rattle.mk_words.proofs.Steps.{whole_end, whole_bare, whole_both, whole_word}
 use Rattle.mk_words.proofs.Lines.{line_goes}
 

@@ -1,10 +1,10 @@
 -- Lines, and reading them from the left.
-use Rattle.std.proofs.Common.{◌≡◌, ◌≢◌, ◌<◌, ◌≤◌, ◌+◌, suc, ℕ, length, get_or, drop, drop-cons, add-one, List, [], ◌∷◌, ◌++◌, Option, Some, None, map, inl, inr, refl, sym, ap, subst, ◌∙◌, append_assoc, arith}
+use Rattle.std.proofs.Common.{◌≡◌, ◌<◌, ◌≤◌, ◌+◌, ℕ, length, get_or, drop, drop-cons, add-one, List, [], ◌∷◌, ◌++◌, Option, Some, None, map, inl, inr, refl, sym, ap, subst, ◌∙◌, append_assoc}
 use Rattle.std.proofs.lemmas.List.{append-nil, drop_all}
 use Rattle.mk_words.specs.declared.kinds.Setting.{Setting}
 use Rattle.mk_words.specs.declared.pieces.Next.{Next}
 use Rattle.mk_words.specs.declared.pieces.Next.TheVariants as next
-use Rattle.mk_words.specs.Words.{Word, Piece, option, plain, name_of, with_value, end_of_options, IsOptionWord, IsLine, IsWritten, AreWritten, behind, plain_behind}
+use Rattle.mk_words.specs.Words.{Word, Piece, option, plain, name_of, end_of_options, IsLine, IsWritten, AreWritten, behind, plain_behind}
 use Rattle.mk_words.specs.Reading.{GoesOn, Takes, HasRead, IsOnlyLine, IsNoLine}
 
 -- plain words behind the end of the options

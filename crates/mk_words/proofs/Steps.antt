@@ -1,7 +1,6 @@
 -- What one word may be, where the words are read from the left.
-use Rattle.std.proofs.Common.{◌≡◌, ◌≢◌, ℕ, List, [], ◌∷◌, ◌++◌, inl, inr, refl, sym, ap, subst, ◌∙◌, arith}
+use Rattle.std.proofs.Common.{◌≡◌, ◌≢◌, List, [], ◌∷◌, inl, inr, refl, sym, ap, subst, ◌∙◌}
 use Rattle.mk_words.specs.declared.kinds.Setting.{Setting}
-use Rattle.mk_words.specs.declared.pieces.Next.{Next}
 use Rattle.mk_words.specs.declared.pieces.Next.TheVariants as next
 use Rattle.mk_words.specs.Words.{Word, Piece, option, plain, name_of, with_value, end_of_options, IsOptionWord}
 use Rattle.mk_words.specs.Kinds.{NamesNot}

@@ -1,5 +1,5 @@
 -- What one word is.
-use Rattle.std.specs.Prelude.{◌≡◌, ◌≢◌, ◌⊎◌, ℕ, List, ◌∷◌}
+use Rattle.std.specs.Prelude.{◌≡◌, ◌≢◌}
 use Rattle.mk_words.specs.declared.kinds.Setting.{Setting}
 use Rattle.mk_words.specs.declared.kinds.Naming.{Naming}
 use Rattle.mk_words.specs.declared.kinds.Naming.TheVariants as naming

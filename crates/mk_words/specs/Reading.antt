@@ -1,5 +1,5 @@
 -- Reading the words from the left.
-use Rattle.std.specs.Prelude.{◌≡◌, ◌⊎◌, ℕ, List, [], ◌∷◌, ◌++◌, Option, Some, None}
+use Rattle.std.specs.Prelude.{◌≡◌, ◌⊎◌, List, [], ◌∷◌, ◌++◌, Option, Some, None}
 use Rattle.mk_words.specs.declared.kinds.Setting.{Setting}
 use Rattle.mk_words.specs.declared.pieces.Next.{Next}
 use Rattle.mk_words.specs.declared.pieces.Next.TheVariants as next

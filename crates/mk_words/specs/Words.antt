@@ -1,6 +1,6 @@
 -- The words of the command line, as lists of bytes, and the pieces that they are: options with their values, and plain
 -- words.
-use Rattle.std.specs.Prelude.{◌≡◌, ◌⊎◌, ℕ, ◌≤◌, List, [], ◌∷◌, ◌++◌, length, map, Option, Some, None, slice_get, codes, flat_map}
+use Rattle.std.specs.Prelude.{◌≡◌, ◌⊎◌, ℕ, ◌≤◌, List, [], ◌∷◌, ◌++◌, length, map, Option, Some, None, slice_get, codes}
 use Rattle.mk_words.specs.declared.kinds.Setting.{Setting}
 use Rattle.mk_words.specs.declared.kinds.Setting.TheVariants.{Workers, Budget, Upto, Model}
 

@@ -13,7 +13,13 @@ use mk_model::NoMemory;
 use std::alloc::Global;
 
 /// The number of the option, from `least` to `most`, or the default where it is not given.
-fn number_given(parts: &[Part<'_>], setting: Setting, least: u64, most: u64, default: u64) -> Option<u64>
+fn number_given(
+    parts: &[Part<'_>],
+    setting: Setting,
+    least: u64,
+    most: u64,
+    default: u64,
+) -> Option<u64>
     ensures some { IfSome result (IsChosen least most default (values_of setting (map piece_of parts.now))) }
     ensures none { IfNone result ((n : ℕ) → IsChosen least most default (values_of setting (map piece_of parts.now)) n → ⊥) }
 {
@@ -66,7 +72,12 @@ fn two_sizes(alloc: Global, first: &[u8], second: &[u8]) -> Result<Option<Vec<u3
 }
 
 /// The three sizes that the words write.
-fn three_sizes(alloc: Global, first: &[u8], second: &[u8], third: &[u8]) -> Result<Option<Vec<u32>>, NoMemory>
+fn three_sizes(
+    alloc: Global,
+    first: &[u8],
+    second: &[u8],
+    third: &[u8],
+) -> Result<Option<Vec<u32>>, NoMemory>
     ensures { IfOk result (λ found. MatchOption found
         ((numbers : List ℕ) → WriteSizes (first.now ∷ second.now ∷ third.now ∷ []) numbers → ⊥)
         (λ sizes. WriteSizes (first.now ∷ second.now ∷ third.now ∷ []) sizes.items)) }

@@ -6,6 +6,8 @@ mod language;
 mod numbers;
 mod pieces;
 mod request;
+#[cfg(test)]
+mod tests;
 mod values;
 
 pub use kinds::Setting;

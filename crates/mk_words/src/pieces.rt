@@ -64,10 +64,7 @@ fn value_step(setting: Setting, word: &str) -> Option<Step<'_>>
     if is_option_word(word.as_bytes()) {
         return None;
     }
-    Some(Step::new(
-        Some(Part::Given(setting, word.as_bytes())),
-        Next::Any,
-    ))
+    Some(Step::new(Some(Part::Given(setting, word.as_bytes())), Next::Any))
 }
 
 /// What a word gives behind the end of the options.

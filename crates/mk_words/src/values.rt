@@ -52,7 +52,10 @@ fn plain_in<'a>(part: Part<'a>) -> Option<&'a str>
 }
 
 /// The one of both values that is there.
-fn one_value<'a>(found: Option<&'a [u8]>, next: Option<&'a [u8]>) -> Result<Option<&'a [u8]>, Repeated>
+fn one_value<'a>(
+    found: Option<&'a [u8]>,
+    next: Option<&'a [u8]>,
+) -> Result<Option<&'a [u8]>, Repeated>
     ensures one { IfOk result (λ v. listed found.entry ++ listed next.entry ≡ listed v) }
     ensures both { IfErr result (λ e. 2 ≤ length (listed found.entry ++ listed next.entry)) }
 {
@@ -80,7 +83,10 @@ fn one_word<'a>(found: Option<&'a str>, next: Option<&'a str>) -> Result<Option<
 }
 
 /// The value of the option, where it is given.
-pub(crate) fn value_given<'a>(parts: &[Part<'a>], setting: Setting) -> Result<Option<&'a [u8]>, Repeated>
+pub(crate) fn value_given<'a>(
+    parts: &[Part<'a>],
+    setting: Setting,
+) -> Result<Option<&'a [u8]>, Repeated>
     ensures once { IfOk result (λ v. values_of setting (map piece_of parts.now) ≡ listed v) }
     ensures often { IfErr result (λ e. 2 ≤ length (values_of setting (map piece_of parts.now))) }
 {

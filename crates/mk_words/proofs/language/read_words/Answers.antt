@@ -1,4 +1,4 @@
-use Rattle.std.proofs.Common.{map, string_bytes, subst}
+use Rattle.std.proofs.Common.{map, string_bytes}
 use Rattle.mk_words.specs.Reading.{piece_of}
 use Rattle.mk_words.proofs.Determined.{no_line, no_request}
 use Rattle.mk_words.proofs.language.read_words.Goals as goal

@@ -1,4 +1,4 @@
-use Rattle.std.proofs.Common.{◌∷◌, [], ◌++◌, List, ℕ, refl, ap, ◌∙◌}
+use Rattle.std.proofs.Common.{◌∷◌, [], ◌++◌, ap, ◌∙◌}
 use Rattle.mk_words.specs.Requests.{AreSizes, WriteSizes}
 use Rattle.mk_words.proofs.SizesRead.{no_sizes, two_sizes, three_sizes, sizes_as}
 use Rattle.mk_words.proofs.language.sizes_in.Goals as goal

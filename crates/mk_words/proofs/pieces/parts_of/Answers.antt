@@ -1,5 +1,4 @@
-use Rattle.std.proofs.Common.{◌≡◌, ◌∷◌, ◌++◌, ◌+◌, [], List, ℕ, map, drop, string_bytes, length, sym, ap, subst, ◌∙◌, arith}
-use Rattle.mk_words.specs.declared.pieces.Next.TheVariants as next
+use Rattle.std.proofs.Common.{◌∷◌, ◌+◌, List, map, drop, string_bytes, sym, subst, arith}
 use Rattle.mk_words.specs.Words.{Word, Piece}
 use Rattle.mk_words.specs.Reading.{GoesOn, Takes, HasRead, piece_of, pieces_of}
 use Rattle.mk_words.proofs.Lines.{read_more, read_none, stopped, stopped_at_end, ended_any, ended_plain, rest_at, rest_at_end}
@@ -21,7 +20,7 @@ loop-word-preserved c =
     let rest = rest_at string_bytes words c.loop-word.word-index word (omega arith) c.word-item.is in
     let takes = subst (λ (w : Word). Takes c.loop-word.next w (pieces_of c.in-Some.step.part) c.in-Some.step.next) c.as_str.ensures.value c.in-Some.ensures in
     let more = read_more (map string_bytes words) (map piece_of c.loop-word.parts.items) (string_bytes word) _ c.loop-word.next c.in-Some.step.next (pieces_of c.in-Some.step.part)
-        (subst (λ (r : List Word). HasRead (map string_bytes words) (map piece_of c.loop-word.parts.items) r c.loop-word.next) rest c.loop-word.invariant) takes in
+    (subst (λ (r : List Word). HasRead (map string_bytes words) (map piece_of c.loop-word.parts.items) r c.loop-word.next) rest c.loop-word.invariant) takes in
     subst (λ (done : List Piece). HasRead (map string_bytes words) done (map string_bytes (drop (c.loop-word.word-index + 1) words)) c.in-Some.step.next) (sym c.in_ok-push_part.ensures) more
 
 pub returns-in-Value : goal.returns-in-Value

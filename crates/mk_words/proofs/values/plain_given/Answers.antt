@@ -1,6 +1,6 @@
-use Rattle.std.proofs.Common.{◌≡◌, ◌∷◌, ◌++◌, ◌+◌, [], List, ℕ, map, drop, length, sym, ap, subst, ◌∙◌, arith}
+use Rattle.std.proofs.Common.{◌≡◌, ◌++◌, ◌+◌, List, map, drop, subst, arith}
 use Rattle.std.specs.List.{flat_map}
-use Rattle.mk_words.specs.Words.{Word, Piece}
+use Rattle.mk_words.specs.Words.{Word}
 use Rattle.mk_words.specs.Found.{listed}
 use Rattle.mk_words.specs.Reading.{piece_of}
 use Rattle.mk_words.specs.Requests.{plain_of}

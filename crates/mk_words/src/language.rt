@@ -12,6 +12,9 @@ use crate::values::{Repeated, plain_given, value_given};
 use mk_model::NoMemory;
 use std::alloc::Global;
 
+/// How many cells a made table may have.
+const MOST_CELLS: u32 = 512;
+
 /// The number of the option, from `least` to `most`, or the default where it is not given.
 fn number_given(
     parts: &[Part<'_>],
@@ -91,7 +94,7 @@ fn three_sizes(
     let Some(c) = size_in(third) else {
         return Ok(None);
     };
-    if a * b * c > 512 {
+    if a * b * c > MOST_CELLS {
         return Ok(None);
     }
     Ok(Some(vec![in alloc; a, b, c]?))

@@ -131,51 +131,61 @@ fn models_are_asked_for(rt: HostRuntime) -> Result<(), Fail> {
 }
 
 #[test]
-fn other_words_are_refused(rt: HostRuntime) -> Result<(), Fail> {
-    let rows = [
-        [].as_slice(),
-        [""].as_slice(),
-        ["--"].as_slice(),
-        ["--", ""].as_slice(),
-        ["P", "Q"].as_slice(),
-        ["P", "--", "Q"].as_slice(),
-        ["-P"].as_slice(),
-        ["--help"].as_slice(),
-        ["-h", "P"].as_slice(),
-        ["--worker", "1", "P"].as_slice(),
-        ["--workersx=1", "P"].as_slice(),
-        ["--=1", "P"].as_slice(),
-        ["P", "--workers"].as_slice(),
-        ["--workers", "1", "--workers", "1", "P"].as_slice(),
-        ["--budget=1", "--budget", "1", "P"].as_slice(),
-        ["--workers", "--budget=1", "P"].as_slice(),
-        ["--workers", "--", "P"].as_slice(),
-        ["--workers", "-1", "P"].as_slice(),
-        ["--workers=-1", "P"].as_slice(),
-        ["--workers=+1", "P"].as_slice(),
-        ["--workers=", "P"].as_slice(),
-        ["--workers=0", "P"].as_slice(),
-        ["--workers=65", "P"].as_slice(),
-        ["--workers=18446744073709551617", "P"].as_slice(),
-        ["--budget", "100000001", "P"].as_slice(),
-        ["--budget", "1 ", "P"].as_slice(),
-        ["--upto", "18446744073709551616", "P"].as_slice(),
-        ["--upto", "-1", "P"].as_slice(),
-        ["--model", "2x2", "P"].as_slice(),
-        ["--model", "2x2", "--model", "2x2"].as_slice(),
-        ["--model", "4"].as_slice(),
-        ["--model", "2x2x2x2"].as_slice(),
-        ["--model", "2X2"].as_slice(),
-        ["--model", "2x"].as_slice(),
-        ["--model", "x2x2"].as_slice(),
-        ["--model", "1x2"].as_slice(),
-        ["--model", "17x2"].as_slice(),
-        ["--model", "9x9x7"].as_slice(),
-        ["--model", "3x3x57"].as_slice(),
-        ["--model", "16x16x3"].as_slice(),
-    ];
-    for words in rows {
-        assert_wrong(&rt, words)?;
-    }
-    Ok(())
+fn nothing_to_do_is_refused(rt: HostRuntime) -> Result<(), Fail> {
+    assert_wrong(&rt, &[])?;
+    assert_wrong(&rt, &[""])?;
+    assert_wrong(&rt, &["--"])?;
+    assert_wrong(&rt, &["--", ""])?;
+    assert_wrong(&rt, &["P", "Q"])?;
+    assert_wrong(&rt, &["P", "--", "Q"])
+}
+
+#[test]
+fn other_options_are_refused(rt: HostRuntime) -> Result<(), Fail> {
+    assert_wrong(&rt, &["-P"])?;
+    assert_wrong(&rt, &["--help"])?;
+    assert_wrong(&rt, &["-h", "P"])?;
+    assert_wrong(&rt, &["--worker", "1", "P"])?;
+    assert_wrong(&rt, &["--workersx=1", "P"])?;
+    assert_wrong(&rt, &["--=1", "P"])
+}
+
+#[test]
+fn options_without_a_value_or_twice_are_refused(rt: HostRuntime) -> Result<(), Fail> {
+    assert_wrong(&rt, &["P", "--workers"])?;
+    assert_wrong(&rt, &["--workers", "1", "--workers", "1", "P"])?;
+    assert_wrong(&rt, &["--budget=1", "--budget", "1", "P"])?;
+    assert_wrong(&rt, &["--workers", "--budget=1", "P"])?;
+    assert_wrong(&rt, &["--workers", "--", "P"])?;
+    assert_wrong(&rt, &["--workers", "-1", "P"])
+}
+
+#[test]
+fn other_numbers_are_refused(rt: HostRuntime) -> Result<(), Fail> {
+    assert_wrong(&rt, &["--workers=-1", "P"])?;
+    assert_wrong(&rt, &["--workers=+1", "P"])?;
+    assert_wrong(&rt, &["--workers=", "P"])?;
+    assert_wrong(&rt, &["--workers=0", "P"])?;
+    assert_wrong(&rt, &["--workers=65", "P"])?;
+    assert_wrong(&rt, &["--workers=18446744073709551617", "P"])?;
+    assert_wrong(&rt, &["--budget", "100000001", "P"])?;
+    assert_wrong(&rt, &["--budget", "1 ", "P"])?;
+    assert_wrong(&rt, &["--upto", "18446744073709551616", "P"])?;
+    assert_wrong(&rt, &["--upto", "-1", "P"])
+}
+
+#[test]
+fn other_models_are_refused(rt: HostRuntime) -> Result<(), Fail> {
+    assert_wrong(&rt, &["--model", "2x2", "P"])?;
+    assert_wrong(&rt, &["--model", "2x2", "--model", "2x2"])?;
+    assert_wrong(&rt, &["--model", "4"])?;
+    assert_wrong(&rt, &["--model", "2x2x2x2"])?;
+    assert_wrong(&rt, &["--model", "2X2"])?;
+    assert_wrong(&rt, &["--model", "2x"])?;
+    assert_wrong(&rt, &["--model", "x2x2"])?;
+    assert_wrong(&rt, &["--model", "1x2"])?;
+    assert_wrong(&rt, &["--model", "17x2"])?;
+    assert_wrong(&rt, &["--model", "9x9x7"])?;
+    assert_wrong(&rt, &["--model", "3x3x57"])?;
+    assert_wrong(&rt, &["--model", "16x16x3"])
 }

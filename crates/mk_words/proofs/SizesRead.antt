@@ -107,3 +107,44 @@ sizes_as (Err e) items P Q to back h = h
 
 pub sizes_too_large : (u v w : Word) (a b c : ℕ) → IsNumberIn 2 16 u a → IsNumberIn 2 16 v b → IsNumberIn 2 16 w c → 512 < a * b * c → (numbers : List ℕ) → WriteSizes (u ∷ v ∷ w ∷ []) numbers → ⊥
 sizes_too_large u v w a b c p q r large numbers sizes = too_large_by u v w a b c p q r large numbers sizes.each sizes.small
+
+-- a word writes the same sizes only
+same_numbers : (words : List Word) (one other : List ℕ) → AllZip (IsNumberIn 2 16) words one → AllZip (IsNumberIn 2 16) words other → one ≡ other
+same_numbers [] [] [] p q = refl
+same_numbers [] [] (n ∷ other) p q = absurd q
+same_numbers [] (n ∷ one) other p q = absurd p
+same_numbers (w ∷ words) [] other p q = absurd p
+same_numbers (w ∷ words) (n ∷ one) [] p q = absurd q
+same_numbers (w ∷ words) (n ∷ one) (m ∷ other) p q =
+    ap (λ x. x ∷ one) (same_number 2 16 w n m p.0 q.0) ∙ ap (λ x. m ∷ x) (same_numbers words one other p.1 q.1)
+
+abbrev HaveNoCross : List Word → Type 0
+HaveNoCross [] = Unit {0}
+HaveNoCross (w ∷ words) = HasNoCross w × HaveNoCross words
+
+have_no_cross : (words : List Word) (numbers : List ℕ) → AllZip (IsNumberIn 2 16) words numbers → HaveNoCross words
+have_no_cross [] numbers p = tt
+have_no_cross (w ∷ words) [] p = absurd p
+have_no_cross (w ∷ words) (n ∷ numbers) p = (number_no_cross 2 16 w n p.0, have_no_cross words numbers p.1)
+
+same_crossed : (u v : Word) (one other : List Word) → HaveNoCross (u ∷ one) → HaveNoCross (v ∷ other) → with_crosses (u ∷ one) ≡ with_crosses (v ∷ other) → u ∷ one ≡ v ∷ other
+same_crossed u v [] [] p q e = ap (λ x. x ∷ []) e
+same_crossed u v [] (w ∷ other) p q e = absurd (no_cut u v (with_crosses (w ∷ other)) p.0 e)
+same_crossed u v (w ∷ one) [] p q e = absurd (no_cut v u (with_crosses (w ∷ one)) q.0 (sym e))
+same_crossed u v (w ∷ one) (x ∷ other) p q e =
+    let same = cut_same u v (with_crosses (w ∷ one)) (with_crosses (x ∷ other)) p.0 q.0 e in
+    ap (λ y. y ∷ w ∷ one) same.0 ∙ ap (λ y. v ∷ y) (same_crossed w x one other p.1 q.1 same.1)
+
+no_words : (numbers : List ℕ) → WriteSizes [] numbers → ⊥
+no_words [] sizes = let some = sizes.some in absurd (omega arith)
+no_words (n ∷ numbers) sizes = sizes.each
+
+same_words : (one other : List Word) (m n : List ℕ) → WriteSizes one m → WriteSizes other n → with_crosses one ≡ with_crosses other → one ≡ other
+same_words [] other m n p q e = absurd (no_words m p)
+same_words (u ∷ one) [] m n p q e = absurd (no_words n q)
+same_words (u ∷ one) (v ∷ other) m n p q e =
+    same_crossed u v one other (have_no_cross (u ∷ one) m p.each) (have_no_cross (v ∷ other) n q.each) e
+
+pub same_sizes : (word : Word) (m n : List ℕ) → AreSizes word m → AreSizes word n → m ≡ n
+same_sizes word m n p q =
+    same_numbers q.0 m n (subst (λ (words : List Word). AllZip (IsNumberIn 2 16) words m) (same_words p.0 q.0 m n p.2 q.2 (sym p.1 ∙ q.1)) p.2.each) q.2.each

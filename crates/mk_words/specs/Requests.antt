@@ -94,6 +94,10 @@ pub record IsRequest (words : List Word) (request : Request) : Type 0 where
   pub line : IsLine words pieces
   pub asked : Asks pieces request
 
+-- the words ask for nothing else
+abbrev pub IsOnlyRequest : List Word → Request → Type 0
+IsOnlyRequest words request = (other : Request) → IsRequest words other → other ≡ request
+
 -- the words ask for nothing: they are not in the language
 abbrev pub AreWrong : List Word → Type 0
 AreWrong words = (request : Request) → IsRequest words request → ⊥

@@ -2,7 +2,7 @@
 
 ghost use Rattle.std.specs.Prelude.{◌≡◌, ◌↔◌, ◌∷◌, [], ℕ, List, Option, map, string_bytes, IsTrue, IfOk, IfSome, IfNone, IsErrOf, MatchOption};
 ghost use Rattle.mk_words.specs.Reading.{piece_of};
-ghost use Rattle.mk_words.specs.Requests.{values_of, plains_of, IsChosen, IsBound, IsTask, IsNumberIn, AreSizes, WriteSizes, Asks, IsRequest, AreWrong, WantOne};
+ghost use Rattle.mk_words.specs.Requests.{values_of, plains_of, IsChosen, IsBound, IsTask, IsNumberIn, AreSizes, WriteSizes, Asks, IsRequest, IsOnlyRequest, AreWrong, WantOne};
 
 use crate::kinds::Setting;
 use crate::numbers::{cut_at_cross, number_in};
@@ -192,6 +192,7 @@ fn request_of(alloc: Global, parts: &[Part<'_>]) -> Result<Request, UsageFault>
 /// does not stand as a value, ends them. There is one plain word that isn't empty, the project, or else `--model` is given.
 pub fn read_words(alloc: Global, words: &[String]) -> Result<Request, UsageFault>
     ensures ok { IfOk result (IsRequest (map string_bytes words.now)) }
+    ensures only { IfOk result (IsOnlyRequest (map string_bytes words.now)) }
     ensures words { IsErrOf result UsageFault.Words → AreWrong (map string_bytes words.now) }
 {
     let Some(parts) = parts_of(alloc, words)? else {

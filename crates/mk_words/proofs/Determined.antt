@@ -1,0 +1,132 @@
+-- Words are a line of the same pieces only, and ask for one thing only.
+use Rattle.std.proofs.Common.{◌≡◌, ℕ, List, [], ◌∷◌, Option, Some, Result, Ok, Err, IfOk, inl, inr, sym, ap, subst, ◌∙◌, IsTrue, nat_eq, eq-eqb}
+use Rattle.std.proofs.lemmas.Bool.{eqb-true}
+use Rattle.mk_words.specs.declared.kinds.Setting.TheVariants.{Workers, Budget, Upto, Model}
+use Rattle.mk_words.specs.declared.pieces.Next.{Next}
+use Rattle.mk_words.specs.declared.pieces.Next.TheVariants as next
+use Rattle.mk_words.specs.declared.request.Request.{Request}
+use Rattle.mk_words.specs.declared.request.Task.{Task}
+use Rattle.mk_words.specs.declared.request.Task.TheVariants as task
+use Rattle.mk_words.specs.Words.{Word, Piece, option, plain, IsLine}
+use Rattle.mk_words.specs.Reading.{GoesOn, IsOnlyLine, IsNoLine}
+use Rattle.mk_words.specs.Requests.{IsChosen, IsBound, IsTask, AreSizes, Asks, IsRequest, IsOnlyRequest, AreWrong, WantOne, values_of, plains_of}
+use Rattle.mk_words.proofs.Steps.{whole_end, whole_bare, whole_both, whole_word}
+use Rattle.mk_words.proofs.Lines.{line_goes}
+use Rattle.mk_words.proofs.SizesRead.{same_sizes}
+
+-- the words go on as the same pieces only, whatever the next word may be
+record GoSame (words : List Word) : Type 0 where
+  same : (before : Next) (one other : List Piece) → GoesOn words before one → GoesOn words before other → one ≡ other
+
+any_same : (w : Word) (words : List Word) (one other : List Piece) → GoSame words → GoesOn (w ∷ words) next.Any one → GoesOn (w ∷ words) next.Any other → one ≡ other
+unfolding GoesOn
+any_same w words one other rest (inl p) h =
+    let there = whole_end w words other p.0 h in rest.same next.Plain one there.0 p.1 there.2 ∙ sym there.1
+any_same w words one other rest (inr (inl p)) h =
+    let there = whole_bare p.0 w words other p.1 h in rest.same (next.Value p.0) one there.0 p.2 there.2 ∙ sym there.1
+any_same w words one other rest (inr (inr (inl p))) h =
+    let there = whole_both p.0 p.1 w words other p.3 h in
+    p.4 ∙ ap (λ x. option p.0 p.1 ∷ x) (rest.same next.Any p.2 there.0 p.5 there.2) ∙ sym there.1
+any_same w words one other rest (inr (inr (inr p))) h =
+    let there = whole_word w words other p.0 h in
+    p.1.1 ∙ ap (λ x. plain w ∷ x) (rest.same next.Any p.1.0 there.0 p.1.2 there.2) ∙ sym there.1
+
+step_same : (w : Word) (words : List Word) (before : Next) (one other : List Piece) → GoSame words → GoesOn (w ∷ words) before one → GoesOn (w ∷ words) before other → one ≡ other
+unfolding GoesOn
+step_same w words next.Any one other rest g h = any_same w words one other rest g h
+step_same w words (next.Value s) one other rest g h =
+    g.1.1 ∙ ap (λ x. option s w ∷ x) (rest.same next.Any g.1.0 h.1.0 g.1.2 h.1.2) ∙ sym h.1.1
+step_same w words next.Plain one other rest g h =
+    g.1 ∙ ap (λ x. plain w ∷ x) (rest.same next.Plain g.0 h.0 g.2 h.2) ∙ sym h.1
+
+end_same : (before : Next) (one other : List Piece) → GoesOn [] before one → GoesOn [] before other → one ≡ other
+unfolding GoesOn
+end_same next.Any one other g h = g ∙ sym h
+end_same (next.Value s) one other g h = absurd g
+end_same next.Plain one other g h = g ∙ sym h
+
+go_same : (words : List Word) → GoSame words
+go_same [] = record { same = end_same }
+go_same (w ∷ words) = record { same = λ before one other g h. step_same w words before one other (go_same words) g h }
+
+pub same_line : (words : List Word) (one other : List Piece) → IsLine words one → IsLine words other → one ≡ other
+same_line words one other g h = (go_same words).same next.Any one other (line_goes words one g) (line_goes words other h)
+
+same_chosen : (least most default : ℕ) (values : List Word) (a b : ℕ) → IsChosen least most default values a → IsChosen least most default values b → a ≡ b
+same_chosen least most default [] a b p q = p ∙ sym q
+same_chosen least most default (v ∷ []) a b p q = p.value ∙ sym q.value
+same_chosen least most default (v ∷ u ∷ more) a b p q = absurd p
+
+pub same_workers : (words : List Word) (one other : Request) → IsRequest words one → IsRequest words other → one.workers ≡ other.workers
+same_workers words one other g h =
+    let pieces = same_line words h.pieces g.pieces h.line g.line in
+    let asked = subst (λ (p : List Piece). IsChosen 1 64 4 (values_of Workers p) other.workers) pieces h.asked.workers in
+    same_chosen 1 64 4 (values_of Workers g.pieces) one.workers other.workers g.asked.workers asked
+
+made : ℕ → ℕ → Option ℕ → Task → Request
+made workers budget upto task = record { workers = workers; budget = budget; upto = upto; task = task }
+
+same_bound : (most : ℕ) (values : List Word) (a b : Option ℕ) → IsBound most values a → IsBound most values b → a ≡ b
+same_bound most [] a b p q = p ∙ sym q
+same_bound most (v ∷ []) a b p q = p.1 ∙ ap (λ n. Some n) (p.2.value ∙ sym q.2.value) ∙ sym q.1
+same_bound most (v ∷ u ∷ more) a b p q = absurd p
+
+same_task : (values plains : List Word) (a b : Task) → IsTask values plains a → IsTask values plains b → a ≡ b
+same_task [] [] a b p q = absurd p
+same_task [] (w ∷ []) (task.Project m) (task.Project n) p q = ap (λ x. task.Project x) (p.0 ∙ sym q.0)
+same_task [] (w ∷ []) (task.Project m) (task.Model n) p q = absurd q
+same_task [] (w ∷ []) (task.Model m) b p q = absurd p
+same_task [] (w ∷ u ∷ more) a b p q = absurd p
+same_task (v ∷ []) [] (task.Model m) (task.Model n) p q = ap (λ x. task.Model x) (same_sizes v m n p q)
+same_task (v ∷ []) [] (task.Model m) (task.Project n) p q = absurd q
+same_task (v ∷ []) [] (task.Project m) b p q = absurd p
+same_task (v ∷ []) (w ∷ more) a b p q = absurd p
+same_task (v ∷ u ∷ values) plains a b p q = absurd p
+
+made_same : (a b : ℕ) (c d : ℕ) (e f : Option ℕ) (g h : Task) → a ≡ b → c ≡ d → e ≡ f → g ≡ h → made a c e g ≡ made b d f h
+unfolding made
+made_same a b c d e f g h p q r s = cc
+
+same_asked : (pieces : List Piece) (one other : Request) → Asks pieces one → Asks pieces other → one ≡ other
+unfolding made
+same_asked pieces one other p q =
+    let workers : one.workers ≡ other.workers = same_chosen 1 64 4 (values_of Workers pieces) one.workers other.workers p.workers q.workers in
+    let budget : one.budget ≡ other.budget = same_chosen 0 100000000 20000000 (values_of Budget pieces) one.budget other.budget p.budget q.budget in
+    let upto : one.upto ≡ other.upto = same_bound 18446744073709551615 (values_of Upto pieces) one.upto other.upto p.upto q.upto in
+    let given : one.task ≡ other.task = same_task (values_of Model pieces) (plains_of pieces) one.task other.task p.task q.task in
+    made_same one.workers other.workers one.budget other.budget one.upto other.upto one.task other.task workers budget upto given
+
+pub same_request : (words : List Word) (one other : Request) → IsRequest words one → IsRequest words other → one ≡ other
+same_request words one other g h =
+    same_asked g.pieces one other g.asked (subst (λ (p : List Piece). Asks p other) (same_line words h.pieces g.pieces h.line g.line) h.asked)
+
+-- a value that writes no sizes gives no task
+pub no_model : (value : Word) → ((numbers : List ℕ) → AreSizes value numbers → ⊥) → (task : Task) → IsTask (value ∷ []) [] task → ⊥
+no_model value none (task.Project name) h = h
+no_model value none (task.Model sizes) h = none sizes h
+
+-- words that are no line ask for nothing, nor do those whose pieces don't
+pub no_line : (words : List Word) → IsNoLine words → AreWrong words
+no_line words none request is = none is.pieces is.line
+
+pub no_request : (words : List Word) (pieces : List Piece) → IsOnlyLine words pieces → ((request : Request) → Asks pieces request → ⊥) → AreWrong words
+no_request words pieces line none request is =
+    none request (subst (λ (p : List Piece). Asks p request) (line.alone is.pieces is.line) is.asked)
+
+pub only_request : {E : Type 0} (words : List Word) (pieces : List Piece) → IsOnlyLine words pieces → (r : Result Request E) → IfOk r (Asks pieces) → IfOk r (IsOnlyRequest words)
+only_request words pieces line (Ok request) asked = λ other is. same_request words other request is (record { pieces = pieces; line = line.line; asked = asked })
+only_request words pieces line (Err e) asked = asked
+
+-- whether one worker is wanted
+wants_by : (words : List Word) (request : Request) → IsRequest words request → WantOne words → request.workers ≡ 1
+wants_by words request is (inl wrong) = absurd (wrong request is)
+wants_by words request is (inr one) = same_workers words request one.0 is one.1 ∙ one.2
+
+pub wants : (words : List Word) (request : Request) → IsRequest words request → (IsTrue (nat_eq request.workers 1) → WantOne words) × (WantOne words → IsTrue (nat_eq request.workers 1))
+wants words request is = (
+  (λ one. inr (request, is, eqb-true request.workers 1 one)),
+  (λ one. eq-eqb request.workers 1 (wants_by words request is one)),
+)
+
+pub wants_wrong : (words : List Word) → AreWrong words → WantOne words
+wants_wrong words wrong = inl wrong

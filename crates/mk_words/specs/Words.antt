@@ -1,0 +1,64 @@
+-- The words of the command line, as lists of bytes, and the pieces that they are: options with their values, and plain
+-- words.
+use Rattle.std.specs.Prelude.{◌≡◌, ◌⊎◌, ℕ, ◌≤◌, List, [], ◌∷◌, ◌++◌, length, map, Option, Some, None, slice_get, codes}
+use Rattle.mk_words.specs.declared.kinds.Setting.{Setting}
+use Rattle.mk_words.specs.declared.kinds.Setting.TheVariants.{Workers, Budget, Upto, Model}
+
+abbrev pub Word : Type 0
+Word = List ℕ
+
+-- the word that names the option
+abbrev pub name_of : Setting → Word
+name_of Workers = codes "--workers"
+name_of Budget = codes "--budget"
+name_of Upto = codes "--upto"
+name_of Model = codes "--model"
+
+-- the option and its value as one word, with `=` between them
+abbrev pub with_value : Setting → Word → Word
+with_value s v = name_of s ++ 61 ∷ v
+
+-- the word `--`, which ends the options
+abbrev pub end_of_options : Word
+end_of_options = 45 ∷ 45 ∷ []
+
+-- two bytes or more, of which the first is `-`
+abbrev pub IsOptionWord : Word → Type 0
+IsOptionWord word = (2 ≤ length word) × (slice_get word 0 ≡ Some 45)
+
+-- a piece of the command line: an option with its value, or a plain word
+pub data Piece : Type 0 where
+  option : Setting → Word → Piece
+  plain : Word → Piece
+
+-- The words that a piece is written as, before `--`: an option and its value as two words, of which the value is no
+-- option word, or as one; a plain word as itself, where it is no option word.
+abbrev pub IsWritten : Piece → List Word → Type 0
+IsWritten (option s v) words =
+    ((words ≡ name_of s ∷ v ∷ []) × ¬ (IsOptionWord v)) ⊎ (words ≡ with_value s v ∷ [])
+IsWritten (plain w) words = (words ≡ w ∷ []) × ¬ (IsOptionWord w)
+
+-- the words are those of the pieces, one after another
+unfoldable pub AreWritten : List Piece → List Word → Type 0
+AreWritten [] words = words ≡ []
+AreWritten (piece ∷ pieces) words =
+    (first : List Word) × (rest : List Word) × (words ≡ first ++ rest) × IsWritten piece first × AreWritten pieces rest
+
+-- what stands behind the options: nothing, or `--` and further words
+abbrev pub behind : Option (List Word) → List Word
+behind None = []
+behind (Some later) = end_of_options ∷ later
+
+-- those further words are plain, whatever they begin with
+abbrev pub plain_behind : Option (List Word) → List Piece
+plain_behind None = []
+plain_behind (Some later) = map plain later
+
+-- the words are a line of these pieces: pieces that are written before `--`, and plain words behind it
+pub record IsLine (words : List Word) (pieces : List Piece) : Type 0 where
+  pub front : List Word
+  pub before : List Piece
+  pub later : Option (List Word)
+  pub written : AreWritten before front
+  pub whole : words ≡ front ++ behind later
+  pub all : pieces ≡ before ++ plain_behind later

@@ -119,3 +119,68 @@ module _ {S C E G F N W : Type 0} (m : Meaning S C E G F N W) where
 
   abbrev pub given : Step (Option S) → Me (Option S) (View S C E G F N W) → ℕ → Me (Option S) (View S C E G F N W) → Type 0
   given st me n me' = (x y : S) → me.0.taken ≡ Some x → me.1 ≡ (0, Some y) ∷ [] → Gave me.0 x y me'.0 × (me'.1 ≡ [])
+
+  abbrev pub raised : View S C E G F N W → View S C E G F N W
+  raised v = record v { raised = true }
+
+  abbrev pub announced : Step (Option S) → Me (Option S) (View S C E G F N W) → ℕ → Me (Option S) (View S C E G F N W) → Type 0
+  announced st me n me' = me' ≡ (raised me.0, me.1)
+
+  abbrev pub looked : Step (Option S) → Me (Option S) (View S C E G F N W) → ℕ → Me (Option S) (View S C E G F N W) → Type 0
+  looked st me found me' = (me' ≡ (record me.0 { known = found }, me.1)) × (me.0.known ≤ found) × (found < 2 ^ 32)
+
+module _ {S C E G F N W : Type 0} where
+  -- the first seat, after one more was made
+  abbrev pub one_more : View S C E G F N W → View S C E G F N W
+  one_more v = record v { made = v.made + 1 }
+
+  -- the seat that the first one makes
+  abbrev pub newcomer : View S C E G F N W → View S C E G F N W
+  newcomer v = record v {
+    number = v.made;
+    taken = None;
+    raised = false;
+    claim = None;
+    entries = [];
+    notices = [];
+    gives = 0;
+    last = None;
+    misses = 0;
+    made = 0;
+    joined = [];
+  }
+
+  -- the first seat, after another was joined
+  abbrev pub joining : View S C E G F N W → View S C E G F N W → View S C E G F N W
+  joining v w = record v { notices = v.notices ++ w.notices; joined = v.joined ++ (w.number, w.entries) ∷ [] }
+
+  abbrev pub spent_view : View S C E G F N W
+  spent_view = record {
+    number = 0;
+    spent = true;
+    taken = None;
+    raised = false;
+    known = 0;
+    claim = None;
+    entries = [];
+    seen = [];
+    fixed = None;
+    notices = [];
+    gives = 0;
+    last = None;
+    misses = 0;
+    seats = 0;
+    made = 0;
+    joined = [];
+  }
+
+  -- each number that was made is the first, or was joined
+  abbrev pub AllJoined : View S C E G F N W → Type 0
+  AllJoined v = (n : ℕ) → 0 < n → n < v.made → (k : ℕ) × (p : ℕ × List E) × (get_elem? v.joined k ≡ some p) × (p.0 ≡ n)
+
+  -- The value at the end is what the seat knows, with the entries of each number that was joined. No other number has a claim or an entry
+  pub record Closes (m : Meaning S C E G F N W) (x : S) (v : View S C E G F N W) : Type 0 where
+    pub knows : Knows m x v
+    pub length_known : v.known ≤ m.len x
+    pub joined : (k : ℕ) (p : ℕ × List E) → get_elem? v.joined k ≡ some p → (m.claim p.0 x ≡ None) × (m.entries p.0 x ≡ p.1)
+    pub unmade : (n : ℕ) → v.made ≤ n → (m.claim n x ≡ None) × (m.entries n x ≡ [])

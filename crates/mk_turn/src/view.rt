@@ -44,6 +44,7 @@ pub type Sight<S> = View<
 >;
 
 /// What a table is told when it is made.
+#[derive(Drop)]
 pub struct About<S> {
     pub value: Snapshot<S>,
     pub seats: u64,

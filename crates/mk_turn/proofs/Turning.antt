@@ -56,6 +56,10 @@ module _ {S C E G F N W : Type 0} (m : Meaning S C E G F N W) where
   at_end (x ∷ xs) a b zero e = inl e
   at_end (x ∷ xs) a b (suc j) e = ⊎_elim inl (λ t. inr (ap suc t.0, t.1)) (at_end xs a b j e)
 
+  only_one : (v u : V) (j : ℕ) → get_elem? (v ∷ []) j ≡ some u → (j ≡ 0) × (v ≡ u)
+  only_one v u zero e = (refl, some-injective v u e)
+  only_one v u (suc j) e = absurd (some-ne-none u (sym e))
+
   same_seat : (v : V) → v.spent ≡ false → IsSameSeat v v
   same_seat v up = record { number = refl; awake = up; seats = refl; made = refl; joined = refl }
 
@@ -416,3 +420,111 @@ module _ {S C E G F N W : Type 0} (m : Meaning S C E G F N W) where
                 (at_end vs right u j e);
             };
           }
+
+      -- a seat that hasn't the turn is spent
+      spent_away : (s : St) (x : S) (other : ℕ) (w : V) → get_elem? s.views other ≡ some w → w.taken ≡ None → Free m x s ⊎ Held m x s → (let t : St = record { words = s.words; homes = s.homes; views = set s.views other spent_view } in Free m x t ⊎ Held m x t)
+      spent_away s x other w at none_taken turn = let gone : V = spent_view in ⊎_elim
+          (λ (f : Free m x s). inl record {
+            word = f.word;
+            home = f.home;
+            published = f.published;
+            no_holder = λ j u e. ⊎_elim (λ (t : (j ≡ other) × (gone ≡ u)). ap (λ (z : V). z.taken) (sym t.1)) (λ (t : (j ≢ other) × (get_elem? s.views j ≡ some u)). f.no_holder j u t.1) (at_set s.views other j gone u e);
+          })
+          (λ (h : Held m x s). inr record {
+            seat = h.seat;
+            by = h.by;
+            at = set_else s.views other h.seat gone (λ e. taken_by_one x w h.by none_taken h.took other h.seat s.views at h.at (sym e)) ∙ h.at;
+            awake = h.awake;
+            word = h.word;
+            took = h.took;
+            published = h.published;
+            no_other = λ j u e away. ⊎_elim (λ (t : (j ≡ other) × (gone ≡ u)). ap (λ (z : V). z.taken) (sym t.1)) (λ (t : (j ≢ other) × (get_elem? s.views j ≡ some u)). h.no_other j u t.1 away) (at_set s.views other j gone u e);
+          })
+          turn
+
+      pub joins : (id : ℕ) (v : V) (other : ℕ) (w : V) → v.spent ≡ false → v.number ≡ 0 → w.spent ≡ false → w.taken ≡ None → w.claim ≡ None → Joins (Standing m seats) id v other w (joining v w) spent_view
+      joins id v other w up zero_is awake none_taken no_claim s r at apart there = let q = r.seated in let one = is_first s r id v at up zero_is in let here = one.0 in let is = one.1 in let both : V = joining v w in let gone : V = spent_view in
+          let vs : List V = set s.views id both in let us : List V = set vs other gone in let knows = r.knows id v at up in let rooms = r.rooms id v at up in let made : q.first.made ≡ v.made = ap (λ (z : V). z.made) is in
+          let joined : q.first.joined ≡ v.joined = ap (λ (z : V). z.joined) is in
+          let there' : get_elem? s.views other ≡ some w = sym (set_else s.views id other both apart) ∙ there in let theirs = r.knows other w there' awake in
+          let lower : w.number < v.made = subst (λ (n : ℕ). w.number < n) made (q.below other w there' awake) in
+          let old : (j : ℕ) (u : V) → get_elem? us j ≡ some u → u.spent ≡ false → (t : V) × (get_elem? s.views j ≡ some t) × (t.spent ≡ false) × (t.number ≡ u.number) × (j ≢ other) =
+            λ j u e a. ⊎_elim (λ (t : (j ≡ other) × (gone ≡ u)). absurd (true≢false (ap (λ (z : V). z.spent) t.1 ∙ a)))
+              (λ (t : (j ≢ other) × (get_elem? vs j ≡ some u)). ⊎_elim
+                (λ (t' : (j ≡ id) × (both ≡ u)). (v, ap (get_elem? s.views) t'.0 ∙ at, up, ap (λ (z : V). z.number) t'.1, t.0))
+                (λ (t' : (j ≢ id) × (get_elem? s.views j ≡ some u)). (u, t'.1, a, refl, t.0)) (at_set s.views id j both u t.1))
+              (at_set vs other j gone u e) in
+          let each : (K : V → Type 0) → K both → ((j : ℕ) (u : V) → get_elem? s.views j ≡ some u → u.spent ≡ false → K u) → (j : ℕ) (u : V) → get_elem? us j ≡ some u → u.spent ≡ false → K u =
+            λ K mine others j u e a. ⊎_elim (λ (t : (j ≡ other) × (gone ≡ u)). absurd (true≢false (ap (λ (z : V). z.spent) t.1 ∙ a)))
+              (λ (t : (j ≢ other) × (get_elem? vs j ≡ some u)). each_after K s.views id both mine (λ i x _ p b. others i x p b) j u t.1 a) (at_set vs other j gone u e) in
+          let turned = turn_after s r.now id v both at up refl refl refl r.turn in record {
+            now = r.now;
+            two_words = r.two_words;
+            one_slot = r.one_slot;
+            short = r.short;
+            turn = spent_away record { words = s.words; homes = s.homes; views = vs } r.now other w there none_taken turned;
+            knows = each (Knows m r.now)
+              record { claims = knows.claims; own = knows.own; saw = knows.saw; fixed = knows.fixed; told = λ k t e. ⊎_elim (knows.told k t) (λ (i : (i : ℕ) × (get_elem? w.notices i ≡ some t)). theirs.told i.0 t i.1) (at_either v.notices w.notices t k e) }
+              r.knows;
+            lengths = each (λ u. u.known ≤ get_or s.words 1 0) (r.lengths id v at up) r.lengths;
+            rooms = each (λ u. u.seats ≡ seats) rooms r.rooms;
+            seated = record {
+              first = both;
+              at = set_else vs other 0 gone (λ e. apart (sym e ∙ sym here)) ∙ subst (λ (i : ℕ). get_elem? vs i ≡ some both) here (set_at s.views id v both at);
+              awake = up;
+              number = zero_is;
+              room = subst (λ (n : ℕ). n ≤ seats) made q.room;
+              left = λ k p e. ⊎_elim
+                (λ (b : get_elem? v.joined k ≡ some p). let l = q.left k p (subst (λ ps. get_elem? ps k ≡ some p) (sym joined) b) in (subst (λ (n : ℕ). p.0 < n) made l.0, l.1, l.2))
+                (λ (is_it : (w.number, w.entries) ≡ p). subst (λ (p : ℕ × List E). (p.0 < v.made) × (m.claim p.0 r.now ≡ None) × (m.entries p.0 r.now ≡ p.1)) is_it (lower, theirs.claims ∙ no_claim, theirs.own))
+                (at_snoc v.joined (w.number, w.entries) p k e);
+              unmade = λ n le. q.unmade n (subst (λ (k : ℕ). k ≤ n) (sym made) le);
+              below = λ j u e a. let o = old j u e a in let b = q.below j o.0 o.1 o.2 in subst (λ (n : ℕ). n < v.made) o.3 (subst (λ (n : ℕ). o.0.number < n) made b);
+              apart = λ i j a b p p' ua ub e. let o = old i a p ua in let n = old j b p' ub in q.apart i j o.0 n.0 o.1 n.1 o.2 n.2 (o.3 ∙ (e ∙ sym n.3));
+              still_here = λ j u e a k p jp. let o = old j u e a in ⊎_elim
+                (λ (b : get_elem? v.joined k ≡ some p). λ is_it. q.still_here j o.0 o.1 o.2 k p (subst (λ ps. get_elem? ps k ≡ some p) (sym joined) b) (is_it ∙ sym o.3))
+                (λ (is_it : (w.number, w.entries) ≡ p). λ same. o.4 (q.apart j other o.0 w o.1 there' o.2 awake (o.3 ∙ (sym same ∙ ap (λ (z : ℕ × List E). z.0) (sym is_it)))))
+                (at_snoc v.joined (w.number, w.entries) p k jp);
+            };
+          }
+
+      pub closes : (id : ℕ) (v : V) (ws : List ℕ) (xs : List (Option S)) → v.spent ≡ false → v.number ≡ 0 → v.taken ≡ None → AllJoined v → Final (Seen (Standing m seats) id v) ws xs
+          → (x : S) × (get_elem? xs 0 ≡ some (Some x)) × Closes m x v
+      closes id v ws xs up zero_is none_taken all f = let s = f.0 in let r = f.1.0 in let at = f.1.1 in let q = r.seated in let one = is_first s r id v at up zero_is in let is = one.1 in let made : q.first.made ≡ v.made = ap (λ (z : V). z.made) is in
+          let joined : q.first.joined ≡ v.joined = ap (λ (z : V). z.joined) is in ⊎_elim
+          (λ (b : Free m r.now s). (r.now, f.4 0 (Some r.now) b.home, record {
+            knows = r.knows id v at up;
+            length_known = subst (λ (n : ℕ). v.known ≤ n) b.published (r.lengths id v at up);
+            joined = λ k p e. let l = q.left k p (subst (λ ps. get_elem? ps k ≡ some p) (sym joined) e) in (l.1, l.2);
+            unmade = λ n le. q.unmade n (subst (λ (k : ℕ). k ≤ n) (sym made) le);
+          }))
+          (λ (h : Held m r.now s). dite (ℕ_discrete h.by.number 0)
+            (λ zero_by. absurd (taken_by_one r.now v h.by none_taken h.took id h.seat s.views at h.at (q.apart id h.seat v h.by at h.at up h.awake (zero_is ∙ sym zero_by))))
+            (λ other. let below = q.below h.seat h.by h.at h.awake in let j = all h.by.number (omega arith) (subst (λ (n : ℕ). h.by.number < n) made below) in
+              absurd (q.still_here h.seat h.by h.at h.awake j.0 j.1 (subst (λ ps. get_elem? ps j.0 ≡ some j.1) (sym joined) j.2) j.3)))
+          r.turn
+
+    pub starts : (x : S) (length : ℕ) (seats : ℕ) → 0 < seats → length ≡ m.len x → length < 2 ^ 32 → ((n : ℕ) → (m.claim n x ≡ None) × (m.entries n x ≡ []))
+        → Standing m seats (opening (0 ∷ length ∷ []) (Some x ∷ []) (beginning m x seats))
+    starts x n seats some_seats is short fresh = let v : V = beginning m x seats in let only : (j : ℕ) (u : V) → get_elem? (v ∷ []) j ≡ some u → (j ≡ 0) × (v ≡ u) = λ j u e. only_one v u j e in record {
+      now = x;
+      two_words = refl;
+      one_slot = refl;
+      short = short;
+      turn = inl record { word = refl; home = refl; published = is; no_holder = λ j u e. ap (λ (z : V). z.taken) (sym (only j u e).1) };
+      knows = λ j u e _. subst (Knows m x) (only j u e).1 record { claims = (fresh 0).0; own = (fresh 0).1; saw = ([], sym (append-nil (m.grown x))); fixed = refl; told = λ k t e. absurd (some-ne-none t (sym e)) };
+      lengths = λ j u e _. subst (λ (z : V). z.known ≤ n) (only j u e).1 (subst (λ (k : ℕ). m.len x ≤ k) (sym is) (le_refl (m.len x)));
+      rooms = λ j u e _. ap (λ (z : V). z.seats) (sym (only j u e).1);
+      seated = record {
+        first = v;
+        at = refl;
+        awake = refl;
+        number = refl;
+        room = some_seats;
+        left = λ k p e. absurd (some-ne-none p (sym e));
+        unmade = λ k _. fresh k;
+        below = λ j u e _. subst (λ (z : V). z.number < 1) (only j u e).1 (le_refl 1);
+        apart = λ i j a b p q _ _ _. (only i a p).0 ∙ sym (only j b q).0;
+        still_here = λ j u e _ k p jp. absurd (some-ne-none p (sym jp));
+      };
+    }

@@ -1,6 +1,7 @@
 //! The turn: a value that many threads change, one at a time and never waiting, each under a number of its own.
 #![tactic(auto)]
 
+mod calls;
 mod plays;
 mod state;
 mod table;

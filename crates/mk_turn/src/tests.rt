@@ -4,10 +4,15 @@ use std::test::Fail;
 
 impl TurnState for u64 {
     type Claim = ();
+
     type Entry = ();
+
     type Move = ();
+
     type Fixed = ();
+
     type Notice = ();
+
     type Whole = ();
 
     ghost use Rattle.mk_turn.specs.Numbers.{any_number, any_number_laws};

@@ -12,4 +12,4 @@ compare_exchange-found-requires g c = (
 
 pub exchange-requires : goal.exchange-requires
 exchange-requires g c = let t = c.compare_exchange-found.ensures.2.0 (search rules) in
-  (search rules, (Some t.0, ap (λ z. z.1) t.1 ∙ ap (λ cs. (0, Some t.0) ∷ rest cs) (sym (ap (λ z. z.1) t.1))))
+    (search rules, (Some t.0, ap (λ z. z.1) t.1 ∙ ap (λ cs. (0, Some t.0) ∷ rest cs) (sym (ap (λ z. z.1) t.1))))

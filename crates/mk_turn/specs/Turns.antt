@@ -46,6 +46,14 @@ module _ {S C E G F N W : Type 0} (m : Meaning S C E G F N W) where
     pub published : slice_index s.words 1 ≡ m.len now + one_if by.raised
     pub no_other : (j : ℕ) (v : View S C E G F N W) → get_elem? s.views j ≡ some v → j ≢ seat → v.taken ≡ None
 
+  -- a seat that isn't spent has this number
+  abbrev pub IsLive : List (View S C E G F N W) → ℕ → Type 0
+  IsLive views n = (j : ℕ) × (v : View S C E G F N W) × (get_elem? views j ≡ some v) × (v.spent ≡ false) × (v.number ≡ n)
+
+  -- the first seat joined the one of this number
+  abbrev pub IsJoined : View S C E G F N W → ℕ → Type 0
+  IsJoined v n = (k : ℕ) × (p : ℕ × List E) × (get_elem? v.joined k ≡ some p) × (p.0 ≡ n)
+
   -- The first seat knows how many were made and which were joined. Seats that aren't spent differ in number. A number not made has neither claim nor entries, and one that was joined has no claim
   pub record Seated (seats : ℕ) (now : S) (views : List (View S C E G F N W)) : Type 0 where
     pub first : View S C E G F N W
@@ -58,6 +66,7 @@ module _ {S C E G F N W : Type 0} (m : Meaning S C E G F N W) where
     pub below : (j : ℕ) (v : View S C E G F N W) → get_elem? views j ≡ some v → v.spent ≡ false → v.number < first.made
     pub apart : (i j : ℕ) (v w : View S C E G F N W) → get_elem? views i ≡ some v → get_elem? views j ≡ some w → v.spent ≡ false → w.spent ≡ false → v.number ≡ w.number → i ≡ j
     pub still_here : (j : ℕ) (v : View S C E G F N W) → get_elem? views j ≡ some v → v.spent ≡ false → (k : ℕ) (p : ℕ × List E) → get_elem? first.joined k ≡ some p → p.0 ≢ v.number
+    pub each_made : (n : ℕ) → n < first.made → IsLive views n ⊎ IsJoined first n
 
   pub record Standing (seats : ℕ) (s : State (Option S) (View S C E G F N W)) : Type 0 where
     pub now : S

@@ -60,7 +60,7 @@ module _ {S C E G F N W : Type 0} (m : Meaning S C E G F N W) where
   only_one v u zero e = (refl, some-injective v u e)
   only_one v u (suc j) e = absurd (some-ne-none u (sym e))
 
-  live_set : (views : List V) (id : ℕ) (v w : V) (n : ℕ) → get_elem? views id ≡ some v → w.spent ≡ false → w.number ≡ v.number → IsLive m views n → IsLive m (set views id w) n
+  live_set : (views : List V) (id : ℕ) (v w : V) (n : ℕ) → get_elem? views id ≡ some v → w.spent ≡ false → w.number ≡ v.number → IsLive views n → IsLive (set views id w) n
   live_set views id v w n at up number l = dite (ℕ_discrete l.0 id)
       (λ e. let is : v ≡ l.1 = some-injective v l.1 (sym at ∙ (ap (get_elem? views) (sym e) ∙ l.2)) in (id, w, set_at views id v w at, up, number ∙ (ap (λ (z : V). z.number) is ∙ l.4)))
       (λ ne. (l.0, l.1, set_else views id l.0 w ne ∙ l.2, l.3, l.4))
@@ -128,8 +128,8 @@ module _ {S C E G F N W : Type 0} (m : Meaning S C E G F N W) where
             below = λ j u e awake. let o = old j u e awake in let b = r.below j o.0 o.1 o.2 in let same_number = o.3 in subst (λ (n : ℕ). u.number < n) (sym made) (subst (λ (n : ℕ). n < r.first.made) same_number b);
             apart = λ i j a b p q ap_ bp e. let o = old i a p ap_ in let n = old j b q bp in r.apart i j o.0 n.0 o.1 n.1 o.2 n.2 (o.3 ∙ (e ∙ sym n.3));
             still_here = λ j u e awake k p jp. let o = old j u e awake in λ is_it. r.still_here j o.0 o.1 o.2 k p (subst (λ l. get_elem? l k ≡ some p) is.joined jp) (is_it ∙ sym o.3);
-          each_made = λ n lt. ⊎_elim (λ (l : IsLive m views n). inl (live_set views id v w n at same.awake same.number l))
-            (λ (k : IsJoined m r.first n). inr (k.0, k.1, subst (λ l. get_elem? l k.0 ≡ some k.1) (sym is.joined) k.2, k.3)) (r.each_made n (subst (λ (b : ℕ). n < b) made lt));
+          each_made = λ n lt. ⊎_elim (λ (l : IsLive views n). inl (live_set views id v w n at same.awake same.number l))
+            (λ (k : IsJoined r.first n). inr (k.0, k.1, subst (λ l. get_elem? l k.0 ≡ some k.1) (sym is.joined) k.2, k.3)) (r.each_made n (subst (λ (b : ℕ). n < b) made lt));
           }
 
       standing_after : (s : St) (r : Standing m seats s) (id : ℕ) (v w : V) (y : S) (words : List ℕ) (homes : List (maybe.Option (Option S))) → get_elem? s.views id ≡ some v → v.spent ≡ false → IsSameSeat v w → Follows m v.number r.now y
@@ -255,6 +255,14 @@ module _ {S C E G F N W : Type 0} (m : Meaning S C E G F N W) where
           }))
           turn
 
+      -- the seat that took the turn is the one that has it
+      holding : (s : St) (r : Standing m seats s) (id : ℕ) (v : V) (x : S) → get_elem? s.views id ≡ some v → v.taken ≡ Some x → (h : Held m r.now s) × (h.seat ≡ id) × (h.by ≡ v) × (r.now ≡ x)
+      holding s r id v x at taken = ⊎_elim (λ (f : Free m r.now s). absurd (none-some x (sym (f.no_holder id v at) ∙ taken)))
+          (λ (h : Held m r.now s). let here : h.seat ≡ id = dite (ℕ_discrete h.seat id) (λ e. e) (λ ne. absurd (none-some x (sym (h.no_other id v at (λ e. ne (sym e))) ∙ taken))) in
+          let is : h.by ≡ v = some-injective h.by v (sym h.at ∙ (ap (get_elem? s.views) here ∙ at)) in
+          (h, here, is, same_Some r.now x (sym h.took ∙ (ap (λ (z : V). z.taken) is ∙ taken))))
+          r.turn
+
       pub looks : (slots id : ℕ) (me : Me (Option S) V) → me.0.spent ≡ false → Allows (Standing m seats) slots id me 1 (λ n. n) (looked m (step slots 1 0 0 none) me)
       looks slots id me up s r _ at _ = let found : ℕ = get_or s.words 1 0 in let w : V = record me.0 { known = found } in let knows = r.knows id me.0 at up in (
         w,
@@ -263,16 +271,13 @@ module _ {S C E G F N W : Type 0} (m : Meaning S C E G F N W) where
         subst (λ (ws : List ℕ). Standing m seats record { words = ws; homes = s.homes; views = set s.views id w }) (sym (set-get_or s.words 1 0))
             (standing_after s r id me.0 w r.now s.words s.homes at up record { number = refl; awake = up; seats = refl; made = refl; joined = refl } (inl refl) r.two_words r.one_slot r.short (le_refl found)
             (turn_after s r.now id me.0 w at up refl refl refl r.turn) record { claims = knows.claims; own = knows.own; saw = knows.saw; fixed = knows.fixed; told = knows.told } (le_refl found)),
-        (refl, r.lengths id me.0 at up, r.short),
+        (
+          refl,
+          r.lengths id me.0 at up,
+          r.short,
+          λ x taken. let held = holding s r id me.0 x at taken in held.0.published ∙ (ap (λ (z : V). m.len r.now + one_if z.raised) held.2 ∙ ap (λ (z : S). m.len z + one_if me.0.raised) held.3),
+        ),
       )
-
-      -- the seat that took the turn is the one that has it
-      holding : (s : St) (r : Standing m seats s) (id : ℕ) (v : V) (x : S) → get_elem? s.views id ≡ some v → v.taken ≡ Some x → (h : Held m r.now s) × (h.seat ≡ id) × (h.by ≡ v) × (r.now ≡ x)
-      holding s r id v x at taken = ⊎_elim (λ (f : Free m r.now s). absurd (none-some x (sym (f.no_holder id v at) ∙ taken)))
-          (λ (h : Held m r.now s). let here : h.seat ≡ id = dite (ℕ_discrete h.seat id) (λ e. e) (λ ne. absurd (none-some x (sym (h.no_other id v at (λ e. ne (sym e))) ∙ taken))) in
-          let is : h.by ≡ v = some-injective h.by v (sym h.at ∙ (ap (get_elem? s.views) here ∙ at)) in
-          (h, here, is, same_Some r.now x (sym h.took ∙ (ap (λ (z : V). z.taken) is ∙ taken))))
-          r.turn
 
       pub announces : (slots id : ℕ) (me : Me (Option S) V) (x : S) (n : ℕ) → me.0.spent ≡ false → me.0.taken ≡ Some x → me.0.raised ≡ false → n ≡ m.len x + 1 → n < 2 ^ 32
           → Allows (Standing m seats) slots id me 1 (λ _. n) (λ _. announced m (step slots 1 n 0 none) me n)
@@ -465,8 +470,8 @@ module _ {S C E G F N W : Type 0} (m : Meaning S C E G F N W) where
                   (at_end vs right u j e);
               each_made = λ n lt. dite (ℕ_discrete n v.made)
                 (λ new. inl (length vs, right, at_last vs right (length vs) refl, up, sym new))
-                (λ older. ⊎_elim (λ (l : IsLive m s.views n). let t = live_set s.views id v left n at up refl l in inl (t.0, t.1, at_longer vs (right ∷ []) t.0 t.1 t.2, t.3, t.4))
-                  (λ (k : IsJoined m q.first n). inr (k.0, k.1, subst (λ ps. get_elem? ps k.0 ≡ some k.1) joined k.2, k.3)) (q.each_made n (omega arith)));
+                (λ older. ⊎_elim (λ (l : IsLive s.views n). let t = live_set s.views id v left n at up refl l in inl (t.0, t.1, at_longer vs (right ∷ []) t.0 t.1 t.2, t.3, t.4))
+                  (λ (k : IsJoined q.first n). inr (k.0, k.1, subst (λ ps. get_elem? ps k.0 ≡ some k.1) joined k.2, k.3)) (q.each_made n (omega arith)));
             };
           }
 
@@ -535,14 +540,14 @@ module _ {S C E G F N W : Type 0} (m : Meaning S C E G F N W) where
                   (λ (is_it : (w.number, w.entries) ≡ p). λ same. o.4 (q.apart j other o.0 w o.1 there' o.2 awake (o.3 ∙ (sym same ∙ ap (λ (z : ℕ × List E). z.0) (sym is_it)))))
                   (at_snoc v.joined (w.number, w.entries) p k jp);
               each_made = λ n lt. ⊎_elim
-                (λ (l : IsLive m s.views n). dite (ℕ_discrete l.0 other)
+                (λ (l : IsLive s.views n). dite (ℕ_discrete l.0 other)
                   (λ e. let is_it : w ≡ l.1 = some-injective w l.1 (sym there' ∙ (ap (get_elem? s.views) (sym e) ∙ l.2)) in
                     inr (length v.joined, (w.number, w.entries), at_last v.joined (w.number, w.entries) (length v.joined) refl, ap (λ (z : V). z.number) is_it ∙ l.4))
                   (λ ne. dite (ℕ_discrete l.0 id)
                     (λ e. let is_it : v ≡ l.1 = some-injective v l.1 (sym at ∙ (ap (get_elem? s.views) (sym e) ∙ l.2)) in
                       inl (id, both, set_else vs other id gone (λ same. ne (e ∙ same)) ∙ set_at s.views id v both at, up, ap (λ (z : V). z.number) is_it ∙ l.4))
                     (λ away. inl (l.0, l.1, set_else vs other l.0 gone ne ∙ (set_else s.views id l.0 both away ∙ l.2), l.3, l.4))))
-                (λ (k : IsJoined m q.first n). inr (k.0, k.1, at_longer v.joined ((w.number, w.entries) ∷ []) k.0 k.1 (subst (λ ps. get_elem? ps k.0 ≡ some k.1) joined k.2), k.3))
+                (λ (k : IsJoined q.first n). inr (k.0, k.1, at_longer v.joined ((w.number, w.entries) ∷ []) k.0 k.1 (subst (λ ps. get_elem? ps k.0 ≡ some k.1) joined k.2), k.3))
                 (q.each_made n (subst (λ (b : ℕ). n < b) (sym made) lt));
             };
           }

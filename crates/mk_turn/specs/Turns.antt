@@ -19,6 +19,15 @@ abbrev pub with_notice : {N : Type 0} → List N → Option N → List N
 with_notice ts None = ts
 with_notice ts (Some t) = ts ++ t ∷ []
 
+module _ {S C E G F N W : Type 0} where
+  -- a seat that isn't spent has this number
+  abbrev pub IsLive : List (View S C E G F N W) → ℕ → Type 0
+  IsLive views n = (j : ℕ) × (v : View S C E G F N W) × (get_elem? views j ≡ some v) × (v.spent ≡ false) × (v.number ≡ n)
+
+  -- the first seat joined the one of this number
+  abbrev pub IsJoined : View S C E G F N W → ℕ → Type 0
+  IsJoined v n = (k : ℕ) × (p : ℕ × List E) × (get_elem? v.joined k ≡ some p) × (p.0 ≡ n)
+
 module _ {S C E G F N W : Type 0} (m : Meaning S C E G F N W) where
   -- what a seat that isn't spent knows of the present value
   pub record Knows (now : S) (v : View S C E G F N W) : Type 0 where
@@ -45,14 +54,6 @@ module _ {S C E G F N W : Type 0} (m : Meaning S C E G F N W) where
     pub took : by.taken ≡ Some now
     pub published : slice_index s.words 1 ≡ m.len now + one_if by.raised
     pub no_other : (j : ℕ) (v : View S C E G F N W) → get_elem? s.views j ≡ some v → j ≢ seat → v.taken ≡ None
-
-  -- a seat that isn't spent has this number
-  abbrev pub IsLive : List (View S C E G F N W) → ℕ → Type 0
-  IsLive views n = (j : ℕ) × (v : View S C E G F N W) × (get_elem? views j ≡ some v) × (v.spent ≡ false) × (v.number ≡ n)
-
-  -- the first seat joined the one of this number
-  abbrev pub IsJoined : View S C E G F N W → ℕ → Type 0
-  IsJoined v n = (k : ℕ) × (p : ℕ × List E) × (get_elem? v.joined k ≡ some p) × (p.0 ≡ n)
 
   -- The first seat knows how many were made and which were joined. Seats that aren't spent differ in number. A number not made has neither claim nor entries, and one that was joined has no claim
   pub record Seated (seats : ℕ) (now : S) (views : List (View S C E G F N W)) : Type 0 where
@@ -137,6 +138,7 @@ module _ {S C E G F N W : Type 0} (m : Meaning S C E G F N W) where
 
   abbrev pub looked : Step (Option S) → Me (Option S) (View S C E G F N W) → ℕ → Me (Option S) (View S C E G F N W) → Type 0
   looked st me found me' = (me' ≡ (record me.0 { known = found }, me.1)) × (me.0.known ≤ found) × (found < 2 ^ 32)
+      × ((x : S) → me.0.taken ≡ Some x → found ≡ m.len x + one_if me.0.raised)
 
 module _ {S C E G F N W : Type 0} where
   -- the first seat, after one more was made
@@ -185,7 +187,7 @@ module _ {S C E G F N W : Type 0} where
 
   -- each number that was made is the first, or was joined
   abbrev pub AllJoined : View S C E G F N W → Type 0
-  AllJoined v = (n : ℕ) → 0 < n → n < v.made → (k : ℕ) × (p : ℕ × List E) × (get_elem? v.joined k ≡ some p) × (p.0 ≡ n)
+  AllJoined v = (n : ℕ) → 0 < n → n < v.made → IsJoined v n
 
   -- The value at the end is what the seat knows, with the entries of each number that was joined. No other number has a claim or an entry
   pub record Closes (m : Meaning S C E G F N W) (x : S) (v : View S C E G F N W) : Type 0 where

@@ -102,6 +102,7 @@ impl<S: TurnState> TurnTable<S> {
         requires table { IsSeatOf self.now seat.old }
         ensures table { IsSameTable seat.old seat.new }
         ensures length { ((turn_view seat.old).known ≤ result) × (result < 2 ^ 32) }
+        ensures held { (x : S) → (turn_view seat.old).taken ≡ Some x → result ≡ S.meaning.len x + one_if (turn_view seat.old).raised }
         ensures view { turn_view seat.new ≡ record (turn_view seat.old) { known = result } }
         ensures word { failed_word seat.new ≡ failed_word seat.old }
     {

@@ -1,4 +1,4 @@
-use Rattle.std.proofs.Common.{rules, ◌≡◌, ◌≢◌, ◌≤◌, ◌^◌, ◌+◌, ◌-◌, ℕ, min, ap, sym, ◌∙◌, subst, Some, ◌∷◌, [], ◌<◌}
+use Rattle.std.proofs.Common.{rules, ◌≡◌, ◌≤◌, ◌^◌, ◌+◌, ◌-◌, min, ap, sym, ◌∙◌, subst, Some, ◌∷◌, ◌<◌}
 use Rattle.atomic_table.specs.Table.{rest}
 use Rattle.mk_turn.specs.Meanings.{Follows}
 use Rattle.mk_turn.specs.Turns.{in_hand, one_if, Gave}

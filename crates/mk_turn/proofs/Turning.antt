@@ -1,5 +1,5 @@
 -- Each step on the table keeps the rule of the turn.
-use Rattle.std.proofs.Common.{◌≡◌, ℕ, ◌+◌, ◌^◌, ◌<◌, ◌≤◌, eqb, ◌≢◌, ◌⊎◌, inl, inr, Bool, true, false, List, [], ◌∷◌, ◌++◌, length, get_or, set, sym, refl, ap, ◌∙◌, subst, ⊎_elim, true≢false, arith, le_refl, length-set, get_or-set_other, get_or-set_same, Option, Some, None, zero, suc}
+use Rattle.std.proofs.Common.{◌≡◌, ℕ, ◌+◌, ◌^◌, ◌<◌, ◌≤◌, eqb, ◌≢◌, ◌⊎◌, inl, inr, Bool, false, List, [], ◌∷◌, ◌++◌, length, get_or, set, sym, refl, ap, ◌∙◌, subst, ⊎_elim, true≢false, arith, le_refl, length-set, get_or-set_other, get_or-set_same, Option, Some, None, zero, suc}
 use Rattle.std.proofs.lemmas.List.{append_assoc, append-nil}
 use Rattle.std.proofs.lemmas.Option.{none-some, same_Some}
 use Rattle.std.proofs.Math.Nat.{le_trans}
@@ -128,8 +128,8 @@ module _ {S C E G F N W : Type 0} (m : Meaning S C E G F N W) where
             below = λ j u e awake. let o = old j u e awake in let b = r.below j o.0 o.1 o.2 in let same_number = o.3 in subst (λ (n : ℕ). u.number < n) (sym made) (subst (λ (n : ℕ). n < r.first.made) same_number b);
             apart = λ i j a b p q ap_ bp e. let o = old i a p ap_ in let n = old j b q bp in r.apart i j o.0 n.0 o.1 n.1 o.2 n.2 (o.3 ∙ (e ∙ sym n.3));
             still_here = λ j u e awake k p jp. let o = old j u e awake in λ is_it. r.still_here j o.0 o.1 o.2 k p (subst (λ l. get_elem? l k ≡ some p) is.joined jp) (is_it ∙ sym o.3);
-          each_made = λ n lt. ⊎_elim (λ (l : IsLive views n). inl (live_set views id v w n at same.awake same.number l))
-            (λ (k : IsJoined r.first n). inr (k.0, k.1, subst (λ l. get_elem? l k.0 ≡ some k.1) (sym is.joined) k.2, k.3)) (r.each_made n (subst (λ (b : ℕ). n < b) made lt));
+            each_made = λ n lt. ⊎_elim (λ (l : IsLive views n). inl (live_set views id v w n at same.awake same.number l))
+                (λ (k : IsJoined r.first n). inr (k.0, k.1, subst (λ l. get_elem? l k.0 ≡ some k.1) (sym is.joined) k.2, k.3)) (r.each_made n (subst (λ (b : ℕ). n < b) made lt));
           }
 
       standing_after : (s : St) (r : Standing m seats s) (id : ℕ) (v w : V) (y : S) (words : List ℕ) (homes : List (maybe.Option (Option S))) → get_elem? s.views id ≡ some v → v.spent ≡ false → IsSameSeat v w → Follows m v.number r.now y
@@ -469,8 +469,8 @@ module _ {S C E G F N W : Type 0} (m : Meaning S C E G F N W) where
                   (λ (t : (j ≡ length vs) × (right ≡ u)). let l = q.left k p jp' in let lt = l.0 in let is_made : v.made ≡ u.number = ap (λ (z : V). z.number) t.1 in λ is_it. omega arith)
                   (at_end vs right u j e);
               each_made = λ n lt. dite (ℕ_discrete n v.made)
-                (λ new. inl (length vs, right, at_last vs right (length vs) refl, up, sym new))
-                (λ older. ⊎_elim (λ (l : IsLive s.views n). let t = live_set s.views id v left n at up refl l in inl (t.0, t.1, at_longer vs (right ∷ []) t.0 t.1 t.2, t.3, t.4))
+                  (λ new. inl (length vs, right, at_last vs right (length vs) refl, up, sym new))
+                  (λ older. ⊎_elim (λ (l : IsLive s.views n). let t = live_set s.views id v left n at up refl l in inl (t.0, t.1, at_longer vs (right ∷ []) t.0 t.1 t.2, t.3, t.4))
                   (λ (k : IsJoined q.first n). inr (k.0, k.1, subst (λ ps. get_elem? ps k.0 ≡ some k.1) joined k.2, k.3)) (q.each_made n (omega arith)));
             };
           }
@@ -540,15 +540,15 @@ module _ {S C E G F N W : Type 0} (m : Meaning S C E G F N W) where
                   (λ (is_it : (w.number, w.entries) ≡ p). λ same. o.4 (q.apart j other o.0 w o.1 there' o.2 awake (o.3 ∙ (sym same ∙ ap (λ (z : ℕ × List E). z.0) (sym is_it)))))
                   (at_snoc v.joined (w.number, w.entries) p k jp);
               each_made = λ n lt. ⊎_elim
-                (λ (l : IsLive s.views n). dite (ℕ_discrete l.0 other)
+                  (λ (l : IsLive s.views n). dite (ℕ_discrete l.0 other)
                   (λ e. let is_it : w ≡ l.1 = some-injective w l.1 (sym there' ∙ (ap (get_elem? s.views) (sym e) ∙ l.2)) in
-                    inr (length v.joined, (w.number, w.entries), at_last v.joined (w.number, w.entries) (length v.joined) refl, ap (λ (z : V). z.number) is_it ∙ l.4))
+                  inr (length v.joined, (w.number, w.entries), at_last v.joined (w.number, w.entries) (length v.joined) refl, ap (λ (z : V). z.number) is_it ∙ l.4))
                   (λ ne. dite (ℕ_discrete l.0 id)
-                    (λ e. let is_it : v ≡ l.1 = some-injective v l.1 (sym at ∙ (ap (get_elem? s.views) (sym e) ∙ l.2)) in
-                      inl (id, both, set_else vs other id gone (λ same. ne (e ∙ same)) ∙ set_at s.views id v both at, up, ap (λ (z : V). z.number) is_it ∙ l.4))
-                    (λ away. inl (l.0, l.1, set_else vs other l.0 gone ne ∙ (set_else s.views id l.0 both away ∙ l.2), l.3, l.4))))
-                (λ (k : IsJoined q.first n). inr (k.0, k.1, at_longer v.joined ((w.number, w.entries) ∷ []) k.0 k.1 (subst (λ ps. get_elem? ps k.0 ≡ some k.1) joined k.2), k.3))
-                (q.each_made n (subst (λ (b : ℕ). n < b) (sym made) lt));
+                  (λ e. let is_it : v ≡ l.1 = some-injective v l.1 (sym at ∙ (ap (get_elem? s.views) (sym e) ∙ l.2)) in
+                  inl (id, both, set_else vs other id gone (λ same. ne (e ∙ same)) ∙ set_at s.views id v both at, up, ap (λ (z : V). z.number) is_it ∙ l.4))
+                  (λ away. inl (l.0, l.1, set_else vs other l.0 gone ne ∙ (set_else s.views id l.0 both away ∙ l.2), l.3, l.4))))
+                  (λ (k : IsJoined q.first n). inr (k.0, k.1, at_longer v.joined ((w.number, w.entries) ∷ []) k.0 k.1 (subst (λ ps. get_elem? ps k.0 ≡ some k.1) joined k.2), k.3))
+                  (q.each_made n (subst (λ (b : ℕ). n < b) (sym made) lt));
             };
           }
 

@@ -1,6 +1,6 @@
 -- A number of which nothing is known: each number follows each.
-use Rattle.std.specs.Prelude.{◌≡◌, ◌≢◌, ℕ, [], None}
-use Rattle.std.proofs.Common.{refl, sym, le_refl}
+use Rattle.std.specs.Prelude.{◌≢◌, ℕ, [], None}
+use Rattle.std.proofs.Common.{refl, le_refl}
 use Rattle.mk_turn.specs.Meanings.{Meaning, Laws}
 
 abbrev pub any_number : Meaning ℕ (Unit {0}) (Unit {0}) (Unit {0}) (Unit {0}) (Unit {0}) (Unit {0})

@@ -5,7 +5,7 @@ use mathlib.Core.Option.{some}
 use lib.ListN.{get_elem?}
 use Rattle.atomic_table.specs.Table.{State, Me, Step}
 use Rattle.mk_turn.specs.declared.view.View.{View}
-use Rattle.mk_turn.specs.Meanings.{Meaning, Follows, BeginsWith}
+use Rattle.mk_turn.specs.Meanings.{Meaning, BeginsWith}
 
 abbrev pub one_if : Bool → ℕ
 one_if b = if b then 1 else 0

@@ -1,0 +1,4 @@
+pub mod Meanings
+pub mod Turns
+pub mod Numbers
+pub mod Seats

@@ -1,12 +1,13 @@
 -- Sizes that are written with `x` between them.
-use Rattle.std.proofs.Common.{◌≡◌, ◌≢◌, ◌<◌, ◌≤◌, ◌*◌, ℕ, suc, true, List, [], ◌∷◌, ◌++◌, Option, Some, None, Result, Ok, Err, length, get_or, refl, sym, ap, subst, ◌∙◌, length-append, arith, IfOk, MatchOption}
+use Rattle.std.proofs.Common.{◌≡◌, ◌≢◌, ◌<◌, ◌≤◌, ◌*◌, ℕ, suc, true, List, [], ◌∷◌, ◌++◌, Option, Some, None, Result, Ok, Err, length, get_or, refl, sym, ap, subst, ◌∙◌, length-append, arith, IfOk, MatchOption, All}
 use Rattle.std.specs.List.{AllZip, AllPass}
 use Rattle.std.specs.Char.{is_ascii_digit}
 use Rattle.std.proofs.Math.Seq.{get_or-append_seam}
-use Rattle.std.proofs.lemmas.List.Elements.{All-get_or}
+use Rattle.std.proofs.lemmas.List.Elements.{All-get_or, All-nil, All-cons}
 use Rattle.std.proofs.lemmas.Bool.{false≢true}
 use Rattle.mk_words.specs.Words.{Word}
-use Rattle.mk_words.specs.Requests.{IsNumberIn, with_crosses, product, WriteSizes, AreSizes}
+use Rattle.mk_words.specs.SmallSizes.{product, AreSmallSizes}
+use Rattle.mk_words.specs.Requests.{IsNumberIn, with_crosses, WriteSizes, AreSizes}
 
 -- no byte of the word is an `x`
 abbrev pub HasNoCross : Word → Type 0
@@ -148,3 +149,13 @@ same_words (u ∷ one) (v ∷ other) m n p q e =
 pub same_sizes : (word : Word) (m n : List ℕ) → AreSizes word m → AreSizes word n → m ≡ n
 same_sizes word m n p q =
     same_numbers q.0 m n (subst (λ (words : List Word). AllZip (IsNumberIn 2 16) words m) (same_words p.0 q.0 m n p.2 q.2 (sym p.1 ∙ q.1)) p.2.each) q.2.each
+
+numbers_small : (words : List Word) (numbers : List ℕ) → AllZip (IsNumberIn 2 16) words numbers → All (λ n. (2 ≤ n) × (n ≤ 16)) numbers
+numbers_small [] [] p = All-nil _
+numbers_small [] (n ∷ numbers) p = absurd p
+numbers_small (w ∷ words) [] p = absurd p
+numbers_small (w ∷ words) (n ∷ numbers) p = All-cons (λ m. (2 ≤ m) × (m ≤ 16)) n numbers (p.0.above, p.0.below) (numbers_small words numbers p.1)
+
+-- sizes that a word writes are small
+pub sizes_small : (word : Word) (numbers : List ℕ) → AreSizes word numbers → AreSmallSizes numbers
+sizes_small word numbers sizes = record { some = sizes.2.some; few = sizes.2.few; each = numbers_small sizes.0 numbers sizes.2.each; small = sizes.2.small }

@@ -1,5 +1,5 @@
 -- What the words of the command line ask for.
-use Rattle.std.specs.Prelude.{◌≡◌, ◌⊎◌, ℕ, ◌*◌, ◌<◌, ◌≤◌, Bool, true, false, if◌then◌else◌, List, [], ◌∷◌, ◌++◌, length, Option, Some, None}
+use Rattle.std.specs.Prelude.{◌≡◌, ◌⊎◌, ℕ, ◌<◌, ◌≤◌, Bool, true, false, if◌then◌else◌, List, [], ◌∷◌, ◌++◌, length, Option, Some, None}
 use Rattle.std.specs.List.{AllZip, flat_map}
 use Rattle.std.specs.Str.Parse.{digits_value}
 use Rattle.mk_model.specs.Tables.{AreDigits}
@@ -8,6 +8,7 @@ use Rattle.mk_words.specs.declared.kinds.Setting.TheVariants.{Workers, Budget, U
 use Rattle.mk_words.specs.declared.request.Request.{Request}
 use Rattle.mk_words.specs.declared.request.Task.{Task}
 use Rattle.mk_words.specs.declared.request.Task.TheVariants as task
+use Rattle.mk_words.specs.SmallSizes.{product}
 use Rattle.mk_words.specs.Words.{Word, Piece, option, plain, IsLine}
 
 -- is it the same option
@@ -58,11 +59,6 @@ abbrev pub with_crosses : List Word → Word
 with_crosses [] = []
 with_crosses (word ∷ []) = word
 with_crosses (word ∷ next ∷ words) = word ++ 120 ∷ with_crosses (next ∷ words)
-
--- all numbers multiplied
-abbrev pub product : List ℕ → ℕ
-product [] = 1
-product (n ∷ numbers) = n * product numbers
 
 -- the words write two or three numbers from 2 to 16, of a product of at most 512
 pub record WriteSizes (words : List Word) (numbers : List ℕ) : Type 0 where

@@ -6,7 +6,7 @@ ghost use Rattle.mk_words.specs.Kinds.{IsNaming, IsKind, NamesNot};
 
 /// An option of the command line.
 #[derive(Clone, Copy)]
-pub enum Setting {
+pub(crate) enum Setting {
     /// How many workers share the work.
     Workers,
     /// How many pairs may be settled.

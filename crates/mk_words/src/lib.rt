@@ -10,6 +10,5 @@ mod request;
 mod tests;
 mod values;
 
-pub use kinds::Setting;
 pub use language::{read_words, wants_one};
 pub use request::{ProjectName, Request, Sizes, Task, UsageFault};

@@ -1,6 +1,7 @@
 //! What a command line asks for.
 
 ghost use Rattle.std.specs.Prelude.{◌≡◌};
+ghost use Rattle.mk_words.specs.SmallSizes.{AreSmallSizes};
 
 use mk_model::NoMemory;
 use std::alloc::AllocError;
@@ -37,16 +38,20 @@ pub struct Sizes {
 
 impl Model for Sizes {
     ghost use Rattle.std.specs.Prelude.{List, ℕ};
+    ghost use Rattle.mk_words.specs.SmallSizes.{AreSmallSizes};
 
     ghost Value = { List ℕ };
 
     ghost view = { λ s. s.sizes.items };
+
+    ghost invariant = { λ s. AreSmallSizes s.sizes.items };
 }
 
 impl Sizes {
-    /// The sizes as numbers.
+    /// The sizes as numbers: two or three, each 2 to 16, of a product of at most 512.
     pub fn numbers(&self) -> &[u32]
-        ensures { result.now ≡ self.now }
+        ensures value { result.now ≡ self.now }
+        ensures kept { AreSmallSizes self.now }
     {
         self.sizes.as_slice()
     }

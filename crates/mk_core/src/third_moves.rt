@@ -1,8 +1,9 @@
 //! The search for the third move that settles a pair.
 
-ghost use Rattle.std.specs.Prelude.{◌<◌, IfOk, IfSome, length};
+ghost use Rattle.std.specs.Prelude.{◌≡◌, ◌↔◌, ◌<◌, None, [], IfOk, IfSome, OnOk, IsTrue, Any, length};
 ghost use Rattle.mk_model.specs.CoreStates.{pair_of};
 ghost use Rattle.mk_model.specs.Events.{IsChain};
+ghost use Rattle.mk_core.specs.Neighbours.{IsWithin, AreNeighboursBelow, AreFlaggedBetween};
 
 use mk_criteria::{find_chain, is_chain};
 use mk_ledger::Ledger;
@@ -24,7 +25,11 @@ pub(crate) struct ThirdMoves {
 
 impl ThirdMoves {
     /// Before the first pair.
-    pub(crate) fn new(alloc: Global) -> ThirdMoves {
+    pub(crate) fn new(alloc: Global) -> ThirdMoves
+        ensures last { result.last ≡ None }
+        ensures second { result.second ≡ None }
+        ensures have_divisor { result.have_divisor.items ≡ [] }
+    {
         ThirdMoves {
             last: None,
             second: None,
@@ -66,17 +71,18 @@ impl ThirdMoves {
             return Ok(());
         }
         self.second = None;
-        self.flag_below(basis, j)?;
-        self.list_below(basis, j)?;
+        let masks = basis.lead_masks();
+        self.flag_below(masks, j)?;
+        self.list_below(masks, j)?;
         self.second = Some(j);
         Ok(())
     }
 
     /// Extends the flags to the places below one.
-    fn flag_below(&mut self, basis: &Basis, j: u32) -> Result<(), NoMemory>
-        requires { j < length basis.now.moves }
+    fn flag_below(&mut self, masks: &[u64], j: u32) -> Result<(), NoMemory>
+        requires { j < length masks.now }
+        ensures { OnOk result (AreFlaggedBetween masks.now (length self.old.have_divisor.items) j self.new.have_divisor.items) }
     {
-        let masks = basis.lead_masks();
         for place in self.have_divisor.len()..j as usize {
             self.have_divisor
                 .push(is_any_within(&masks[..place], masks[place]))?;
@@ -85,12 +91,12 @@ impl ThirdMoves {
     }
 
     /// Lists the places below one whose masks have a bit in common with its mask.
-    fn list_below(&mut self, basis: &Basis, j: u32) -> Result<(), NoMemory>
-        requires { j < length basis.now.moves }
+    fn list_below(&mut self, masks: &[u64], j: u32) -> Result<(), NoMemory>
+        requires { j < length masks.now }
+        ensures { OnOk result (AreNeighboursBelow masks.now j j self.new.places.items self.new.masks.items) }
     {
         self.places.clear();
         self.masks.clear();
-        let masks = basis.lead_masks();
         for place in 0..j {
             let mask = masks[place as usize];
             if mask & masks[j as usize] != 0 {
@@ -137,7 +143,9 @@ impl ThirdMoves {
 }
 
 /// Is one of these masks within the other?
-fn is_any_within(masks: &[u64], other: u64) -> bool {
+fn is_any_within(masks: &[u64], other: u64) -> bool
+    ensures { IsTrue result ↔ Any (IsWithin other) masks.now }
+{
     let outside = !other;
     masks.iter().any(|mask| *mask & outside == 0)
 }

@@ -10,3 +10,4 @@ pub mod NeededMoves
 pub mod Seats
 pub mod Lines
 pub mod Turns
+pub mod Neighbours

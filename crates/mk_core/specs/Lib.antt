@@ -4,3 +4,4 @@ pub mod Remainders
 pub mod Seats
 pub mod SaturatedBases
 pub mod Redundancy
+pub mod Neighbours

@@ -14,6 +14,7 @@ ghost use Rattle.mk_core.specs.Remainders.{IsRemainderOfClaim};
 use crate::completed::Completed;
 use crate::phase::{Job, Phase, Stopped};
 use crate::skipping::skip_pair;
+use crate::third_moves::ThirdMoves;
 use crate::work::{WorkFault, work_on};
 use mk_ledger::{Claim, Halt, Ledger, LedgerParts, PlaceFault};
 use mk_model::NoMemory;
@@ -54,7 +55,7 @@ pub fn finish_alone(alloc: Global, mut ledger: Ledger) -> Result<Completed, Stop
     ensures halted { (worker : ℕ) (halt : CoreHalt) → ledger.state.first_halted ≡ Some worker → halt_of ledger.state worker ≡ Some halt → HandsOn halt result }
 {
     let mut finder = finder_of(alloc, ledger.basis())?;
-    match settle_pairs(&mut ledger, &mut finder)? {
+    match settle_pairs(alloc, &mut ledger, &mut finder)? {
         Ending::Ended => Ok(ended(ledger)),
         Ending::OverBudget => Err(over_budget(ledger)),
         Ending::Halted => Err(stopped_by(ledger)),
@@ -84,17 +85,21 @@ pub fn finder_of(alloc: Global, basis: &Basis) -> Result<LeadFinder, NoMemory>
 }
 
 /// Settles pair after pair until no pair is claimed, and says why none is.
-fn settle_pairs(ledger: &mut Ledger, finder: &mut LeadFinder) -> Result<Ending, NoMemory>
+fn settle_pairs(
+    alloc: Global,
+    ledger: &mut Ledger,
+    finder: &mut LeadFinder,
+) -> Result<Ending, NoMemory>
     requires unclaimed { NoneClaims ledger.old.state }
     requires leads { finder.old ≡ leads_of ledger.old.basis.moves }
     ensures goes_on { OnOk result (ContinuesLedger ledger.old ledger.new) }
     ensures ending { IfOk result (EndsBy ledger.new.state) }
 {
     let mut scratch = Scratch::new();
-    let mut last = None;
+    let mut third_moves = ThirdMoves::new(alloc);
     loop {
         match next_pair(ledger) {
-            Ok((i, j)) => settle_pair(&mut scratch, ledger, finder, &mut last, i, j)?,
+            Ok((i, j)) => settle_pair(&mut scratch, ledger, finder, &mut third_moves, i, j)?,
             Err(ending) => return Ok(ending),
         }
     }
@@ -119,13 +124,12 @@ fn next_pair(ledger: &mut Ledger) -> Result<(u32, u32), Ending>
 }
 
 /// Settles the pair that the worker has claimed: without reduction, where its leads have no column in common or a third move
-/// settles it, and else by its remainder. Or halts where an entry leaves its range or the basis is full. `last` is the third
-/// move that served last.
+/// is found that settles it, and else by its remainder. Or halts where an entry leaves its range or the basis is full.
 fn settle_pair(
     scratch: &mut Scratch,
     ledger: &mut Ledger,
     finder: &mut LeadFinder,
-    last: &mut Option<u32>,
+    third_moves: &mut ThirdMoves,
     i: u32,
     j: u32,
 ) -> Result<(), NoMemory>
@@ -134,7 +138,7 @@ fn settle_pair(
     ensures goes_on { OnOk result (GoesOnUnclaimed ledger.old ledger.new) }
     ensures leads { OnOk result (finder.new ≡ leads_of ledger.new.basis.moves) }
 {
-    if skip_pair(ledger, last, i, j)? {
+    if skip_pair(ledger, third_moves, i, j)? {
         return Ok(());
     }
     reduce_pair(scratch, ledger, finder, i, j)

@@ -10,6 +10,7 @@ mod phase;
 mod saturated;
 mod seat;
 mod skipping;
+mod third_moves;
 mod work;
 
 pub use completed::Completed;

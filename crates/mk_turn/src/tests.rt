@@ -1,6 +1,11 @@
 //! Rows of the turn over a number, of which nothing is known.
-use crate::{TurnState, TurnTable};
+ghost use Rattle.std.specs.Prelude.{◌≡◌, ◌≤◌, None};
+ghost use Rattle.mk_turn.specs.Seats.{turn_view, IsSeatOf};
+
+use crate::{TurnSeat, TurnState, TurnTable};
 use std::test::Fail;
+use std::thread;
+use std::thread::join;
 
 impl TurnState for u64 {
     type Claim = ();
@@ -61,5 +66,39 @@ fn what_was_given_last_comes_out_at_the_end(rt: HostRuntime) -> Result<(), Fail>
     table.give(&mut second, value / 2);
     table.join(&mut first, second);
     assert!(rt; table.close(first) == 3);
+    Ok(())
+}
+
+// Tries a thousand times to add 1, and tells how often it did.
+fn add_often(table: &TurnTable<u64>, seat: TurnSeat<u64>) -> (u64, TurnSeat<u64>)
+    requires { IsSeatOf table.now seat × ((turn_view seat).taken ≡ None) }
+    ensures { (result.0 ≤ 1000) × IsSeatOf table.now result.1 × ((turn_view result.1).taken ≡ None) }
+{
+    let mut seat = seat;
+    let mut done = 0;
+    for _ in 0..1000u64 {
+        match table.try_take(&mut seat) {
+            Some(value) => {
+                table.give(&mut seat, value.wrapping_add(1));
+                done += 1;
+            }
+            None => thread::yield_now(),
+        }
+    }
+    (done, seat)
+}
+
+#[test]
+fn no_turn_of_two_threads_is_lost(rt: HostRuntime) -> Result<(), Fail> {
+    let (table, mut first) = TurnTable::new(rt.alloc(), 7u64, 0, 2)?;
+    let second = table.split(&mut first);
+    let shared = &table;
+    let ((a, mut first), (b, _second)) = join(
+        &rt,
+        || add_often(shared, first),
+        || add_often(shared, second),
+    );
+    let last = table.try_take(&mut first);
+    assert!(rt; last == Some(7 + a + b) && a + b > 0);
     Ok(())
 }

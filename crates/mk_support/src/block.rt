@@ -3,7 +3,7 @@ ghost use Rattle.std.specs.Prelude.{◌≡◌, length};
 use crate::bits::bit_of;
 use crate::held::HeldLead;
 use mk_model::NoMemory;
-use mk_move::{Move, Side};
+use mk_move::{Move, Side, first_bit};
 use std::alloc::Global;
 
 /// So many leads are a full block.
@@ -19,6 +19,8 @@ pub(crate) struct Block {
 
 impl Block {
     ghost use Rattle.std.specs.Prelude.{[], ◌∷◌, ◌++◌, ◌<◌, ◌⊎◌, All, IfSome, IfNone, IfOk, OnOk, OnErr, ℕ};
+    ghost use Rattle.std.specs.Int.{bit_at};
+    ghost use Rattle.std.specs.Prelude.{◌≢◌};
     ghost use Rattle.mk_move.specs.Sides.{part_of, DividesAt};
     ghost use Rattle.mk_move.specs.Masks.{IsMask};
     ghost use Rattle.mk_support.specs.Blocks.{HoldsIn, IsPlaced, IsRefused, IsShare, IsShareWith, TellsApart};
@@ -75,7 +77,8 @@ impl Block {
         None
     }
 
-    /// The lowest bit in which its masks and this one are not all the same, where it is full and there is one.
+    /// Of the bits in which its masks and this one are not all the same, that which most of its masks have, where it is full and
+    /// there is one.
     pub(crate) fn splitting_bit(&self, mask: u64) -> Option<u32>
         ensures splits { IfSome result (TellsApart self.now mask) }
         ensures none { IfNone result ((length self.now.masks.items < 16) ⊎ All (λ m. m ≡ mask) self.now.masks.items) }
@@ -90,7 +93,40 @@ impl Block {
         if differing == 0 {
             return None;
         }
-        Some(differing.trailing_zeros())
+        Some(self.most_common(differing))
+    }
+
+    /// Of bits, at least one, that which most of its masks have.
+    fn most_common(&self, bits: u64) -> u32
+        requires { bits ≢ 0 }
+        ensures range { result < 64 }
+        ensures set { bit_at bits result ≡ 1 }
+    {
+        let (mut best, mut left) = first_bit(bits);
+        let mut most = self.count_with(best);
+        while left != 0 {
+            let (bit, others) = first_bit(left);
+            let count = self.count_with(bit);
+            if count > most {
+                best = bit;
+                most = count;
+            }
+            left = others;
+        }
+        best
+    }
+
+    /// How many of its masks have the bit.
+    fn count_with(&self, bit: u32) -> usize
+        requires { bit < 64 }
+    {
+        let mut count: usize = 0;
+        for mask in &self.masks {
+            if bit_of(*mask, bit) == 1 {
+                count = count.saturating_add(1);
+            }
+        }
+        count
     }
 
     /// A block of its leads whose masks have this bit, 0 or 1, there.

@@ -1,8 +1,7 @@
-use Rattle.std.proofs.Common.{◌∙◌, ◌+◌, ◌≤◌, inr, arith, sym, ap, subst, length, get_or, List, ℕ, w64}
+use Rattle.std.proofs.Common.{◌∙◌, ◌+◌, ◌≤◌, inr, arith, sym, ap, subst, length, get_or, List, ℕ}
 use Rattle.std.specs.Int.RustNames.{bit_or, bit_xor}
 use Rattle.std.proofs.lemmas.List.{get_or_default}
 use Rattle.std.proofs.lemmas.List.Elements.{Contains-get_or}
-use Rattle.std.proofs.lemmas.Nat.Bits.{bit_at-trailing_zeros}
 use Rattle.mk_support.proofs.Differences.{DiffersUpTo, differs_more}
 use Rattle.mk_support.proofs.block.Block.splitting_bit.Goals as goal
 
@@ -25,10 +24,9 @@ returns-then-differing-eq0-clause-none c =
 pub returns-clause-splits : goal.returns-clause-splits
 returns-clause-splits c =
     let masks = c.args.self.now.masks.items in
-    let (low, set, _) = bit_at-trailing_zeros w64 c.loop-other.differing (omega (arith, c.if-differing-eq0.false)) c.loop-other.auto.differing-fits.fits in
-    let (k, within, apart) = c.loop-other.invariant.set _ set in
+    let (k, within, apart) = c.loop-other.invariant.set _ c.most_common.ensures.set in
     record {
-      low = low;
+      low = c.most_common.ensures.range;
       other = get_or masks k 0;
       own = Contains-get_or masks k 0 (omega (arith, within, c.loop-other.auto.other-index-end, ap length c.deref-other-items.ensures.value));
       apart = apart;

@@ -8,7 +8,7 @@ use Rattle.mk_model.specs.Events.{HaveCommonColumn, IsPairOverflow}
 use Rattle.mk_model.proofs.Journals.{first_at-append, second_at-append, IsPairOverflow-append}
 use Rattle.mk_model.proofs.Turns.{LeavesOthers, line_step, step_leaves, one_more_turn}
 use Rattle.mk_model.specs.Programs as program
-use Rattle.mk_model.specs.Programs.{IsLine, Drives}
+use Rattle.mk_model.specs.Programs.{IsProgramLine, Drives}
 use Rattle.mk_move.specs.MoveLists.{BasisView, vectors_of}
 use Rattle.mk_reduce.specs.Works.{TheWork}
 use Rattle.mk_reduce.proofs.LongerBases.{WorkOf-append}
@@ -152,14 +152,14 @@ module _ (job : Job) (workers : ℕ) where
       stages : set (map (stage_of n) seats) worker (stage_of n turn.next) ≡ map (stage_of n) seats_after
       stages = sym (map-set (stage_of n) seats worker turn.next) ∙ ap (map (stage_of n)) (sym turn.changed)
 
-      line_at : IsLine n job.start.priority before.state worker (stage_of n (get_or seats worker Gone)) after.state (stage_of n turn.next)
+      line_at : IsProgramLine n job.start.priority before.state worker (stage_of n (get_or seats worker Gone)) after.state (stage_of n turn.next)
       line_at =
-          subst (λ p. IsLine n p before.state worker (stage_of n (get_or seats worker Gone)) after.state (stage_of n turn.next)) h.priority
-          (subst (λ (w : List ℤ). IsLine (length w) before.basis.priority before.state worker (stage_of (length w) (get_or seats worker Gone)) after.state (stage_of (length w) turn.next)) h.grading turn.line.line)
+          subst (λ p. IsProgramLine n p before.state worker (stage_of n (get_or seats worker Gone)) after.state (stage_of n turn.next)) h.priority
+          (subst (λ (w : List ℤ). IsProgramLine (length w) before.basis.priority before.state worker (stage_of (length w) (get_or seats worker Gone)) after.state (stage_of (length w) turn.next)) h.grading turn.line.line)
 
-      line : IsLine n job.start.priority before.state worker (get_or (map (stage_of n) seats) worker program.Stage.Gone) after.state (stage_of n turn.next)
+      line : IsProgramLine n job.start.priority before.state worker (get_or (map (stage_of n) seats) worker program.Stage.Gone) after.state (stage_of n turn.next)
       line =
-          subst (λ stage. IsLine n job.start.priority before.state worker stage after.state (stage_of n turn.next)) (sym (get_or-map (stage_of n) seats worker Gone program.Stage.Gone l)) line_at
+          subst (λ stage. IsProgramLine n job.start.priority before.state worker stage after.state (stage_of n turn.next)) (sym (get_or-map (stage_of n) seats worker Gone program.Stage.Gone l)) line_at
 
   pub driven_to_end : (turns : List ℕ) (ledger : LedgerView) (seats : List Stage) → IsLedger ledger → IsDrivenTo job workers turns ledger seats → IsDriven job workers turns ledger
   driven_to_end turns ledger seats kept h = record { priority = h.priority; grading = h.grading; kept = kept; stages = map (stage_of n) seats; drives = h.drives }

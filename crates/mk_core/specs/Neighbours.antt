@@ -4,8 +4,8 @@ use Rattle.std.specs.Int.{w64, bit_not}
 use Rattle.std.specs.Int.RustNames.{bit_and}
 
 -- each bit of the mask is one of the other's
-abbrev pub IsWithin : ℕ → ℕ → Type 0
-IsWithin other mask = bit_and mask (bit_not w64 other) ≡ 0
+abbrev pub IsMaskWithin : ℕ → ℕ → Type 0
+IsMaskWithin other mask = bit_and mask (bit_not w64 other) ≡ 0
 
 -- Among the places there is each one before an end whose mask has a bit in common with that of the second; and beside them
 -- are their masks.
@@ -16,4 +16,4 @@ pub record AreNeighboursBelow (all : List ℕ) (second end : ℕ) (places masks 
 -- the flags from one place on and below another tell whether the mask of a place before it lies within its mask
 abbrev pub AreFlaggedBetween : List ℕ → ℕ → ℕ → List Bool → Type 0
 AreFlaggedBetween all from end flags =
-    (place : ℕ) → from ≤ place → place < end → (get_or flags place true ≡ true) ↔ Any (IsWithin (get_or all place 0)) (take place all)
+    (place : ℕ) → from ≤ place → place < end → (get_or flags place true ≡ true) ↔ Any (IsMaskWithin (get_or all place 0)) (take place all)

@@ -5,7 +5,7 @@ use Rattle.mk_model.specs.Events.{HaveCommonColumn, IsPairOverflow}
 use Rattle.mk_model.specs.Overflows.{IsGenuineOverflow}
 use Rattle.mk_model.specs.Reductions.{Reduct}
 use Rattle.mk_model.specs.Programs as program
-use Rattle.mk_model.specs.Programs.{IsLine, IsNextCandidate, IsWholeLine, Drives}
+use Rattle.mk_model.specs.Programs.{IsProgramLine, IsNextCandidate, IsWholeLine, Drives}
 use Rattle.mk_move.specs.Moves.{Weighed}
 use Rattle.mk_move.specs.MoveLists.{BasisView, vectors_of}
 use Rattle.mk_reduce.specs.Works.{TheWork, WorkOf, rest_of, IsReduced}
@@ -70,7 +70,7 @@ IsAt ledger worker Gone = Unit {0}
 -- ---- lines and turns
 -- one line of the program, from a stage of the worker to the ledger and its stage afterwards
 pub record TakesLine (before : LedgerView) (worker : ℕ) (stage : Stage) (after : LedgerView) (next : Stage) : Type 0 where
-  pub line : IsLine (length before.basis.grading) before.basis.priority before.state worker (stage_of (length before.basis.grading) stage) after.state
+  pub line : IsProgramLine (length before.basis.grading) before.basis.priority before.state worker (stage_of (length before.basis.grading) stage) after.state
       (stage_of (length before.basis.grading) next)
   pub stands : IsAt after worker next
   pub longer : IsLonger before.basis after.basis

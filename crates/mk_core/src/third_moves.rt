@@ -3,7 +3,7 @@
 ghost use Rattle.std.specs.Prelude.{◌≡◌, ◌↔◌, ◌<◌, None, [], IfOk, IfSome, OnOk, IsTrue, Any, length};
 ghost use Rattle.mk_model.specs.CoreStates.{pair_of};
 ghost use Rattle.mk_model.specs.Events.{IsChain};
-ghost use Rattle.mk_core.specs.Neighbours.{IsWithin, AreNeighboursBelow, AreFlaggedBetween};
+ghost use Rattle.mk_core.specs.Neighbours.{IsMaskWithin, AreNeighboursBelow, AreFlaggedBetween};
 
 use mk_criteria::{find_chain, is_chain};
 use mk_ledger::Ledger;
@@ -144,7 +144,7 @@ impl ThirdMoves {
 
 /// Is one of these masks within the other?
 fn is_any_within(masks: &[u64], other: u64) -> bool
-    ensures { IsTrue result ↔ Any (IsWithin other) masks.now }
+    ensures { IsTrue result ↔ Any (IsMaskWithin other) masks.now }
 {
     let outside = !other;
     masks.iter().any(|mask| *mask & outside == 0)

@@ -8,7 +8,7 @@ use Rattle.std.proofs.lemmas.List.Concat.{get_or-flat_map}
 use Rattle.std.proofs.lemmas.List.FromFn.{length-range_with_len, get_or-range_with_len}
 use Rattle.mk_model.specs.Vectors.{entry, scale}
 use Rattle.mk_model.proofs.VectorAlgebra.{entry-scale, length-scale}
-use Rattle.mk_gen.specs.Models.{difference, times_difference, model_rows, cells}
+use Rattle.mk_gen.specs.Models.{neighbour_entry, times_difference, model_rows, cells}
 use Rattle.mk_gen.specs.ModelLaws.{RowsOfTwo, RowsOfThree, EntriesOfTwo, EntriesOfThree}
 use Rattle.mk_gen.proofs.Rows.{length-pieces, model_columns, many_rows}
 
@@ -35,16 +35,16 @@ module _ (n : ℕ) (sizes : List ℕ) (s r : ℕ) (first : s + 1 < n) (row : r <
       in_piece (λ k. map (times_difference n k) (model_rows sizes)) (length (model_rows sizes)) (n - 1) s r [] (λ k. length-map (model_rows sizes) (times_difference n k)) (omega (arith, first)) row
       ∙ get_or-map (times_difference n s) (model_rows sizes) r [] [] row
 
-  entry_of : (p c : ℕ) → p < n → c < cells sizes → entry (get_or (model_rows (n ∷ sizes)) (s * length (model_rows sizes) + r) []) (p * cells sizes + c) ≡ difference s p *ℤ entry rest c
+  entry_of : (p c : ℕ) → p < n → c < cells sizes → entry (get_or (model_rows (n ∷ sizes)) (s * length (model_rows sizes) + r) []) (p * cells sizes + c) ≡ neighbour_entry s p *ℤ entry rest c
   unfolding times_difference
   entry_of p c h l =
       let wide : length rest ≡ cells sizes = model_columns sizes r [] row in
       ap (λ x. entry x (p * cells sizes + c)) row_of
-      ∙ in_piece (λ k. scale (difference s k) rest) (cells sizes) n p c (pos 0) (λ k. length-scale (difference s k) rest ∙ wide) h l
-      ∙ entry-scale (difference s p) rest c
+      ∙ in_piece (λ k. scale (neighbour_entry s k) rest) (cells sizes) n p c (pos 0) (λ k. length-scale (neighbour_entry s k) rest ∙ wide) h l
+      ∙ entry-scale (neighbour_entry s p) rest c
 
 -- one size
-one : (b t q : ℕ) → t + 1 < b → q < b → entry (get_or (model_rows (b ∷ [])) t []) q ≡ difference t q
+one : (b t q : ℕ) → t + 1 < b → q < b → entry (get_or (model_rows (b ∷ [])) t []) q ≡ neighbour_entry t q
 unfolding model_rows cells
 one b t q h l =
     let row : t * 1 + 0 ≡ t = omega arith in
@@ -68,7 +68,7 @@ two a b s t p q h i l m =
     ap (λ k. entry (get_or (model_rows (a ∷ b ∷ [])) (s * k + t) []) (p * b + q)) (sym many)
     ∙ ap (λ k. entry (get_or (model_rows (a ∷ b ∷ [])) (s * length (model_rows (b ∷ [])) + t) []) (p * k + q)) (sym wide)
     ∙ entry_of a (b ∷ []) s t h (omega (arith, many, i)) p q l (omega (arith, wide, m))
-    ∙ ap (λ z. difference s p *ℤ z) (one b t q i m)
+    ∙ ap (λ z. neighbour_entry s p *ℤ z) (one b t q i m)
 
 -- a place in the i-th of k pieces of m
 place_within : (i j k m : ℕ) → i < k → j < m → i * m + j < k * m
@@ -94,7 +94,7 @@ three a b c s t u p q r h i j l m n =
     ap (λ k. entry (get_or (model_rows (a ∷ b ∷ c ∷ [])) (s * k + row) []) (p * (b * c) + cell)) (sym many)
     ∙ ap (λ k. entry (get_or (model_rows (a ∷ b ∷ c ∷ [])) (s * length (model_rows (b ∷ c ∷ [])) + row) []) (p * k + cell)) (sym wide)
     ∙ entry_of a (b ∷ c ∷ []) s row h (omega (arith, many, lower)) p cell l (omega (arith, wide, left))
-    ∙ ap (λ z. difference s p *ℤ z) (two b c t u q r i j m n)
+    ∙ ap (λ z. neighbour_entry s p *ℤ z) (two b c t u q r i j m n)
 
 pub rows_of_three : RowsOfThree
 rows_of_three a b c = many_rows a (b ∷ c ∷ []) ∙ ap (λ k. (a - 1) * k) (rows_of_two b c)

@@ -12,7 +12,7 @@ use Rattle.mk_model.specs.Tables.{Grid, cut, rows_of}
 use Rattle.mk_model.specs.Vectors.{IsEntry, scale}
 use Rattle.mk_model.proofs.VectorAlgebra.{length-scale}
 use Rattle.mk_files.specs.Table.{IsTable}
-use Rattle.mk_gen.specs.Models.{difference, times_difference, AreModelSizes, model_rows, cells, model_grid}
+use Rattle.mk_gen.specs.Models.{neighbour_entry, times_difference, AreModelSizes, model_rows, cells, model_grid}
 use Rattle.mk_gen.specs.Wider.{wider}
 use Rattle.mk_gen.proofs.Units.{IsUnit, unit_times, difference_is_unit}
 
@@ -67,7 +67,7 @@ cut_rows columns (row ∷ rows) h =
 pub length-times_difference : (n s : ℕ) (row : List ℤ) → length (times_difference n s row) ≡ n * length row
 unfolding times_difference
 length-times_difference n s row =
-    length-pieces (λ p. scale (difference s p) row) (length row) (range_with_len 0 n) (λ k d h. length-scale _ row)
+    length-pieces (λ p. scale (neighbour_entry s p) row) (length row) (range_with_len 0 n) (λ k d h. length-scale _ row)
     ∙ ap (λ m. m * length row) (length-range_with_len 0 n)
 
 entries_times : (k : ℤ) → IsUnit k → (row : List ℤ) → All IsEntry row → All IsEntry (scale k row)
@@ -77,7 +77,7 @@ entries_times k h row j = All-map IsEntry (λ a. k *ℤ a) row (λ i d l. unit_t
 pub entries_times_difference : (n s : ℕ) (row : List ℤ) → All IsEntry row → All IsEntry (times_difference n s row)
 unfolding times_difference
 entries_times_difference n s row h =
-    All-pieces IsEntry (λ p. scale (difference s p) row) (range_with_len 0 n) (λ k d l. entries_times _ (difference_is_unit s _) row h)
+    All-pieces IsEntry (λ p. scale (neighbour_entry s p) row) (range_with_len 0 n) (λ k d l. entries_times _ (difference_is_unit s _) row h)
 
 -- each row of a table has its columns, and entries
 cut_columns : (rows columns : ℕ) (entries : List ℤ) → length entries ≡ rows * columns → All (λ row. length row ≡ columns) (cut rows columns entries)

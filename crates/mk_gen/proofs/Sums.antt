@@ -9,7 +9,7 @@ use Rattle.mk_model.specs.Vectors.{scale, weight}
 use Rattle.mk_model.specs.Lattices.{ones}
 use Rattle.mk_model.specs.ChosenGradings.{IsGradingOf}
 use Rattle.mk_model.proofs.Integers.{*ℤ-+ℤ, one-*ℤ}
-use Rattle.mk_gen.specs.Models.{difference, times_difference, model_rows, cells, model_grid}
+use Rattle.mk_gen.specs.Models.{neighbour_entry, times_difference, model_rows, cells, model_grid}
 use Rattle.mk_gen.proofs.Rows.{All-pieces, rows_of_model, model_columns}
 
 total : List ℤ → ℤ
@@ -32,27 +32,27 @@ total-scale k [] = omega (arith, ints)
 total-scale k (a ∷ x) = ap (λ z. (k *ℤ a) +ℤ z) (total-scale k x) ∙ sym (*ℤ-+ℤ k a (total x))
 
 -- ---- the entries of a difference
-at_first : (s p : ℕ) → p ≡ s → difference s p ≡ pos 1
+at_first : (s p : ℕ) → p ≡ s → neighbour_entry s p ≡ pos 1
 at_first s p e = grind (arith, e)
 
-at_second : (s p : ℕ) → p ≡ s + 1 → difference s p ≡ neg_ℤ (pos 1)
+at_second : (s p : ℕ) → p ≡ s + 1 → neighbour_entry s p ≡ neg_ℤ (pos 1)
 at_second s p e = grind (arith, e)
 
-before_both : (s p : ℕ) → p < s → difference s p ≡ pos 0
+before_both : (s p : ℕ) → p < s → neighbour_entry s p ≡ pos 0
 before_both s p h = grind (arith, h)
 
-behind_both : (s p : ℕ) → s + 1 < p → difference s p ≡ pos 0
+behind_both : (s p : ℕ) → s + 1 < p → neighbour_entry s p ≡ pos 0
 behind_both s p h = grind (arith, h)
 
 -- ---- the row times the entries from a on
 times_from : ℕ → List ℤ → ℕ → ℕ → List ℤ
-times_from s row a n = flat_map (λ p. scale (difference s p) row) (range_with_len a n)
+times_from s row a n = flat_map (λ p. scale (neighbour_entry s p) row) (range_with_len a n)
 
-one_less : (s : ℕ) (row : List ℤ) (a n : ℕ) (k : ℤ) → difference s a ≡ k → total (times_from s row a (suc n)) ≡ (k *ℤ total row) +ℤ total (times_from s row (a + 1) n)
+one_less : (s : ℕ) (row : List ℤ) (a n : ℕ) (k : ℤ) → neighbour_entry s a ≡ k → total (times_from s row a (suc n)) ≡ (k *ℤ total row) +ℤ total (times_from s row (a + 1) n)
 unfolding times_from
 one_less s row a n k e =
-    total-append (scale (difference s a) row) (times_from s row (a + 1) n)
-    ∙ ap (λ z. z +ℤ total (times_from s row (a + 1) n)) (total-scale (difference s a) row ∙ ap (λ z. z *ℤ total row) e)
+    total-append (scale (neighbour_entry s a) row) (times_from s row (a + 1) n)
+    ∙ ap (λ z. z +ℤ total (times_from s row (a + 1) n)) (total-scale (neighbour_entry s a) row ∙ ap (λ z. z *ℤ total row) e)
 
 sum_behind : (s : ℕ) (row : List ℤ) (a n : ℕ) → s + 1 < a → total (times_from s row a n) ≡ pos 0
 unfolding times_from total

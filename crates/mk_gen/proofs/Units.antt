@@ -6,7 +6,7 @@ use Rattle.std.proofs.lemmas.Int.{ints, to_z-of_z, fits_signed_from_abs}
 use Rattle.mk_model.specs.declared.TheConstants.{ENTRY_MAX}
 use Rattle.std.specs.Prelude.{◌==◌, if◌then◌else◌}
 use Rattle.mk_model.specs.Vectors.{IsEntry}
-use Rattle.mk_gen.specs.Models.{difference}
+use Rattle.mk_gen.specs.Models.{neighbour_entry}
 
 -- a number that is read as an entry
 abbrev pub as_entry : ℤ → ℤ
@@ -38,7 +38,7 @@ pub product_read : (k a : ℤ) → IsUnit k → IsEntry a → as_entry (as_entry
 product_read k a h j =
     ap (λ z. as_entry (z *ℤ as_entry a)) (entry_read k (unit_is_entry k h)) ∙ ap (λ z. as_entry (k *ℤ z)) (entry_read a j) ∙ entry_read (k *ℤ a) (unit_times k a h j)
 
-pub difference_is_unit : (s p : ℕ) → IsUnit (difference s p)
+pub difference_is_unit : (s p : ℕ) → IsUnit (neighbour_entry s p)
 difference_is_unit s p = go (p == s) (p == s + 1) where
   go : (a b : Bool) → IsUnit (if a then pos 1 else (if b then neg_ℤ (pos 1) else pos 0))
   go true b = (omega (arith, ints), omega (arith, ints))

@@ -6,12 +6,12 @@ use Rattle.mk_model.specs.Vectors.{scale}
 use Rattle.mk_model.specs.Tables.{Grid}
 
 -- the entry of a difference of neighbours: 1 at s, -1 at s + 1, and 0 else
-abbrev pub difference : ℕ → ℕ → ℤ
-difference s p = if p == s then pos 1 else (if p == s + 1 then neg_ℤ (pos 1) else pos 0)
+abbrev pub neighbour_entry : ℕ → ℕ → ℤ
+neighbour_entry s p = if p == s then pos 1 else (if p == s + 1 then neg_ℤ (pos 1) else pos 0)
 
 -- the row times each of the n entries of a difference, one after another
 unfoldable pub times_difference : ℕ → ℕ → List ℤ → List ℤ
-times_difference n s row = flat_map (λ p. scale (difference s p) row) (range_with_len 0 n)
+times_difference n s row = flat_map (λ p. scale (neighbour_entry s p) row) (range_with_len 0 n)
 
 -- the rows of the first of n neighbours, of the second and so on, each over all rows of the other sizes
 unfoldable pub model_rows : List ℕ → List (List ℤ)

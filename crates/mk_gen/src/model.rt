@@ -6,7 +6,7 @@ ghost use Rattle.mk_model.specs.Vectors.{IsEntry, scale};
 ghost use Rattle.mk_model.specs.Tables.{rows_of};
 ghost use Rattle.mk_model.specs.Lattices.{ones};
 ghost use Rattle.mk_model.specs.ChosenGradings.{IsGradingOf};
-ghost use Rattle.mk_gen.specs.Models.{AreModelSizes, difference, times_difference, model_grid};
+ghost use Rattle.mk_gen.specs.Models.{AreModelSizes, neighbour_entry, times_difference, model_grid};
 ghost use Rattle.mk_gen.specs.Wider.{wider};
 
 use mk_files::Table;
@@ -88,7 +88,7 @@ fn push_multiple(entries: &mut Vec<Entry>, factor: Entry, row: &[Entry]) -> Resu
 
 /// The entry at `p` of the difference of the neighbours `s` and `s + 1`.
 fn factor_at(s: u32, p: u32) -> Entry
-    ensures value { result ≡ difference s p }
+    ensures value { result ≡ neighbour_entry s p }
     ensures small { (neg_ℤ (pos 1) ≤ℤ result) × (result ≤ℤ pos 1) }
 {
     match p.checked_sub(s) {

@@ -7,7 +7,7 @@ use Rattle.mk_model.specs.CoreStates.Halt.{Overflow, Full}
 use Rattle.mk_model.specs.Events.{Event, Happens, HappenInTurn, IsClaim, IsSettling}
 use Rattle.mk_model.specs.Events.Event.{Claims, Settles, Halts}
 use Rattle.mk_model.specs.Legal.{IsLegal}
-use Rattle.mk_model.specs.Programs.{Stage, IsLine, Drives, IsIdleLine, IsTest, IsTried, IsReducedLine, IsWholeLine}
+use Rattle.mk_model.specs.Programs.{Stage, IsProgramLine, Drives, IsIdleLine, IsTest, IsTried, IsReducedLine, IsWholeLine}
 use Rattle.mk_model.specs.Programs.Stage.{Idle, Fresh, Tests, Ready, Reduced, Stale, Stopping, Gone}
 use Rattle.mk_model.proofs.Journals.{Grows, moves_grow}
 use Rattle.mk_model.proofs.LegalEvents.{events_keep, all_events_keep}
@@ -52,7 +52,7 @@ module _ (n : ℕ) (priority : List ℕ) (state : CoreState) (worker : ℕ) (aft
   reduced_step seen left next (inr (d, inl (l, e, f))) = stays e
   reduced_step seen left next (inr (d, inr (l, h))) = whole_step left next h
 
-  pub line_step : (stage next : Stage) → IsLine n priority state worker stage after next → IsStep n priority state worker after
+  pub line_step : (stage next : Stage) → IsProgramLine n priority state worker stage after next → IsStep n priority state worker after
   line_step Idle next h = idle_step next h
   line_step Fresh next (e, f) = stays e
   line_step (Tests seen from tried) next h = test_step h.pair seen from tried next h.test
@@ -136,9 +136,9 @@ driven_legal n priority state stages turns after last legal h =
 
 -- one turn more
 pub one_more_turn : (n : ℕ) (priority : List ℕ) (state : CoreState) (stages : List Stage) (turns : List ℕ) (middle : CoreState) (between : List Stage) (worker : ℕ) (after : CoreState) (next : Stage) →
-    Drives n priority state stages turns middle between → IsLine n priority middle worker (get_or between worker Gone) after next →
+    Drives n priority state stages turns middle between → IsProgramLine n priority middle worker (get_or between worker Gone) after next →
     Drives n priority state stages (turns ++ worker ∷ []) after (set between worker next)
 one_more_turn n priority state stages [] middle between worker after next (e, f) line =
-    (after, next, subst (λ s. IsLine n priority s worker (get_or stages worker Gone) after next) e (subst (λ b. IsLine n priority middle worker (get_or b worker Gone) after next) f line), (refl, ap (λ b. set b worker next) f))
+    (after, next, subst (λ s. IsProgramLine n priority s worker (get_or stages worker Gone) after next) e (subst (λ b. IsProgramLine n priority middle worker (get_or b worker Gone) after next) f line), (refl, ap (λ b. set b worker next) f))
 one_more_turn n priority state stages (first ∷ turns) middle between worker after next (between_state, stage, h, rest) line =
     (between_state, stage, h, one_more_turn n priority between_state (set stages first stage) turns middle between worker after next rest line)

@@ -119,7 +119,7 @@ pub record IsReducingLine (n : ℕ) (state : CoreState) (worker : ℕ) (moves : 
 
 -- ---- reduced
 -- the claim is settled by a move that is what is left or its negative
-pub record IsPlacing (n : ℕ) (priority : List ℕ) (state : CoreState) (worker : ℕ) (left : List ℤ) (after : CoreState) : Type 0 where
+pub record PlacesWhatIsLeft (n : ℕ) (priority : List ℕ) (state : CoreState) (worker : ℕ) (left : List ℤ) (after : CoreState) : Type 0 where
   pub settling : IsSettling n priority state worker (Place (length state.basis)) after
   pub move : List ℤ
   pub sign : (move ≡ left) ⊎ (move ≡ negate left)
@@ -128,7 +128,7 @@ pub record IsPlacing (n : ℕ) (priority : List ℕ) (state : CoreState) (worker
 -- The whole basis reduced it: its move is placed; or there is no room for it, and the worker halts.
 abbrev pub IsWholeLine : ℕ → List ℕ → CoreState → ℕ → List ℤ → CoreState → Stage → Type 0
 IsWholeLine n priority state worker left after next =
-    (IsPlacing n priority state worker left after × (next ≡ Idle))
+    (PlacesWhatIsLeft n priority state worker left after × (next ≡ Idle))
     ⊎ (((pair : Pair) × IsHalting state worker (Full pair) after) × (next ≡ Gone))
 
 -- Zero settles the claim; what isn't zero is stale where the basis has grown.
@@ -141,21 +141,21 @@ IsReducedLine n priority state worker seen left after next =
 
 -- ---- one line, and one after another
 -- from a stage of the worker, the state and the stage afterwards
-abbrev pub IsLine : ℕ → List ℕ → CoreState → ℕ → Stage → CoreState → Stage → Type 0
-IsLine n priority state worker Idle after next = IsIdleLine state worker after next
-IsLine n priority state worker Fresh after next = (after ≡ state) × (next ≡ Tests (length state.basis) 0 0)
-IsLine n priority state worker (Tests seen from tried) after next = IsTestsLine n priority state worker seen from tried after next
-IsLine n priority state worker (Ready seen) after next =
+abbrev pub IsProgramLine : ℕ → List ℕ → CoreState → ℕ → Stage → CoreState → Stage → Type 0
+IsProgramLine n priority state worker Idle after next = IsIdleLine state worker after next
+IsProgramLine n priority state worker Fresh after next = (after ≡ state) × (next ≡ Tests (length state.basis) 0 0)
+IsProgramLine n priority state worker (Tests seen from tried) after next = IsTestsLine n priority state worker seen from tried after next
+IsProgramLine n priority state worker (Ready seen) after next =
     IsReducingLine n state worker (take seen state.basis) seen (difference (take seen state.basis)) after next
-IsLine n priority state worker (Reduced seen left) after next = IsReducedLine n priority state worker seen left after next
-IsLine n priority state worker (Stale left) after next =
+IsProgramLine n priority state worker (Reduced seen left) after next = IsReducedLine n priority state worker seen left after next
+IsProgramLine n priority state worker (Stale left) after next =
     IsReducingLine n state worker state.basis (length state.basis) (λ pair. left) after next
-IsLine n priority state worker (Stopping stop) after next = IsHalting state worker (Overflow stop) after × (next ≡ Gone)
-IsLine n priority state worker Gone after next = (after ≡ state) × (next ≡ Gone)
+IsProgramLine n priority state worker (Stopping stop) after next = IsHalting state worker (Overflow stop) after × (next ≡ Gone)
+IsProgramLine n priority state worker Gone after next = (after ≡ state) × (next ≡ Gone)
 
 -- The stages stand at the workers' numbers. Each turn names a worker, which takes its line; the other stages stay.
 abbrev pub Drives : ℕ → List ℕ → CoreState → List Stage → List ℕ → CoreState → List Stage → Type 0
 Drives n priority state stages [] after last = (after ≡ state) × (last ≡ stages)
 Drives n priority state stages (worker ∷ turns) after last =
-    (middle : CoreState) × (next : Stage) × IsLine n priority state worker (get_or stages worker Gone) middle next
+    (middle : CoreState) × (next : Stage) × IsProgramLine n priority state worker (get_or stages worker Gone) middle next
     × Drives n priority middle (set stages worker next) turns after last

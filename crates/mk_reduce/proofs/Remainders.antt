@@ -18,18 +18,18 @@ use Rattle.mk_reduce.specs.declared.step.Step.{Step}
 use Rattle.mk_reduce.specs.declared.remainder.Blocked.{Blocked}
 use Rattle.mk_reduce.specs.Stops.{overflow_of}
 use Rattle.mk_reduce.specs.Works.{IsReductionStep, after_step}
-use Rattle.mk_reduce.specs.Remainders.{IsNormalRest, IsUnweighed, IsLeftOf, IsBlocked}
+use Rattle.mk_reduce.specs.Remainders.{IsNormalRest, IsUnweighed, IsLeftUnweighed, IsBlocked}
 use Rattle.mk_reduce.proofs.Beginnings.{vector_at, difference_at, first_beyond}
 use Rattle.mk_reduce.proofs.BasisMoves.{columns_of}
 use Rattle.mk_reduce.proofs.Falls.{step_down}
 use Rattle.mk_reduce.proofs.Heights.{height}
 use Rattle.mk_reduce.proofs.MoreSteps.{reduction_of}
 
-pub left_of_itself : (basis : BasisView) (m : Weighed) → IsUnweighed basis.grading m → IsLeftOf basis m.entries m
+pub left_of_itself : (basis : BasisView) (m : Weighed) → IsUnweighed basis.grading m → IsLeftUnweighed basis m.entries m
 left_of_itself basis m h = record { unweighed = h; reduct = here }
 
 -- a step by a move of the basis, as it is taken off in place
-module _ (basis : BasisView) (h : IsBasis basis) (first : List ℤ) (m v : Weighed) (step : Step) (left : IsLeftOf basis first m) (is_step : IsReductionStep (vectors_of basis.moves) m.entries step)
+module _ (basis : BasisView) (h : IsBasis basis) (first : List ℤ) (m v : Weighed) (step : Step) (left : IsLeftUnweighed basis first m) (is_step : IsReductionStep (vectors_of basis.moves) m.entries step)
     (at : slice_get basis.moves step.place ≡ Some v) (belongs : BelongsTo basis.priority basis.grading v) where
   after_is : minus_times m.entries step.times v.entries ≡ after_step (vectors_of basis.moves) m.entries step
   after_is = ap (minus_times m.entries step.times) (sym (vector_at basis.moves step.place v at))
@@ -37,8 +37,8 @@ module _ (basis : BasisView) (h : IsBasis basis) (first : List ℤ) (m v : Weigh
   one_more : (next : List ℤ) → next ≡ minus_times m.entries step.times v.entries → Reduct (vectors_of basis.moves) first next
   one_more next e = reaches_append left.reduct (go (reduction_of (vectors_of basis.moves) m.entries next step is_step (e ∙ after_is)) here)
 
-  pub step_left : (after : Weighed) → TakesOffInPlace m step.times v.entries (Ok true) after → IsLeftOf basis first after
-  step_left after e = subst (λ (x : Weighed). IsLeftOf basis first x) (sym e) (record {
+  pub step_left : (after : Weighed) → TakesOffInPlace m step.times v.entries (Ok true) after → IsLeftUnweighed basis first after
+  step_left after e = subst (λ (x : Weighed). IsLeftUnweighed basis first x) (sym e) (record {
     unweighed = record {
       columns = omega (arith, lengths, left.unweighed.columns, columns_of basis h v belongs);
       product = weight-minus_times basis.grading m.entries v.entries step.times (left.unweighed.columns ∙ sym (columns_of basis h v belongs)) left.unweighed.product belongs.graded.product;
@@ -55,8 +55,8 @@ module _ (basis : BasisView) (h : IsBasis basis) (first : List ℤ) (m v : Weigh
   step_to_zero after e = one_more (zeros (length basis.grading)) (sym (e.1 ∙ ap zeros left.unweighed.columns))
 
   pub step_blocked : (after : Weighed) (over : OverflowAt) → TakesOffInPlace m step.times v.entries (Err over) after →
-      IsLeftOf basis first after × IsBlocked (vectors_of basis.moves) after.entries (record { place = step.place; at = over })
-  step_blocked after over e = subst (λ (x : Weighed). IsLeftOf basis first x × IsBlocked (vectors_of basis.moves) x.entries (record { place = step.place; at = over })) (sym e.0) (
+      IsLeftUnweighed basis first after × IsBlocked (vectors_of basis.moves) after.entries (record { place = step.place; at = over })
+  step_blocked after over e = subst (λ (x : Weighed). IsLeftUnweighed basis first x × IsBlocked (vectors_of basis.moves) x.entries (record { place = step.place; at = over })) (sym e.0) (
     left,
     record {
       within = is_step.within;
@@ -70,7 +70,7 @@ abbrev pub with_weight : List ℤ → Weighed → Weighed
 with_weight w m = record m { weight = weight w (positive_part m.entries) }
 
 pub rest_left : (basis : BasisView) (pair : Pair) (first : List ℤ) (m given : Weighed) → Reduct (vectors_of basis.moves) (difference (vectors_of basis.moves) pair) first →
-    IsLeftOf basis first m → IsNormal (vectors_of basis.moves) m.entries → given ≡ with_weight basis.grading m → IsNormalRest basis pair given
+    IsLeftUnweighed basis first m → IsNormal (vectors_of basis.moves) m.entries → given ≡ with_weight basis.grading m → IsNormalRest basis pair given
 rest_left basis pair first m given began left normal e = subst (λ (x : Weighed). IsNormalRest basis pair x) (sym e) (record {
   reduct = reaches_append began left.reduct;
   rest = record { columns = left.unweighed.columns; graded = record { product = left.unweighed.product; weight = refl } };
@@ -78,7 +78,7 @@ rest_left basis pair first m given began left normal e = subst (λ (x : Weighed)
 })
 
 pub step_fault : (basis : BasisView) (pair : Pair) (first : List ℤ) (m given : Weighed) (blocked : Blocked) → Reduct (vectors_of basis.moves) (difference (vectors_of basis.moves) pair) first →
-    IsLeftOf basis first m → IsBlocked (vectors_of basis.moves) m.entries blocked → given ≡ with_weight basis.grading m →
+    IsLeftUnweighed basis first m → IsBlocked (vectors_of basis.moves) m.entries blocked → given ≡ with_weight basis.grading m →
     IsGenuineOverflow (vectors_of basis.moves) (overflow_of pair (Some given.entries) (Some blocked.place) blocked.at)
 step_fault basis pair first m given blocked began left h e =
     subst (λ (x : Weighed). IsGenuineOverflow (vectors_of basis.moves) (overflow_of pair (Some x.entries) (Some blocked.place) blocked.at)) (sym e)

@@ -36,7 +36,7 @@ pub record IsUnweighed (w : List ℤ) (m : Weighed) : Type 0 where
   pub product : weight w m.entries ≡ pos 0
 
 -- what steps of reduction leave of a vector, but for its weight
-pub record IsLeftOf (basis : BasisView) (first : List ℤ) (m : Weighed) : Type 0 where
+pub record IsLeftUnweighed (basis : BasisView) (first : List ℤ) (m : Weighed) : Type 0 where
   pub unweighed : IsUnweighed basis.grading m
   pub reduct : Reduct (vectors_of basis.moves) first m.entries
 
@@ -48,6 +48,6 @@ pub record IsBlocked (moves : List (List ℤ)) (r : List ℤ) (blocked : Blocked
 
 -- Reducing in place: what is left is normal; or it is zero, and then the row isn't said; or a step is blocked.
 abbrev pub ReducesInPlace : BasisView → List ℤ → Result Bool Blocked → Weighed → Type 0
-ReducesInPlace basis first (Ok true) m = IsLeftOf basis first m × IsNormal (vectors_of basis.moves) m.entries
+ReducesInPlace basis first (Ok true) m = IsLeftUnweighed basis first m × IsNormal (vectors_of basis.moves) m.entries
 ReducesInPlace basis first (Ok false) m = Reduct (vectors_of basis.moves) first (zeros (length basis.grading))
-ReducesInPlace basis first (Err blocked) m = IsLeftOf basis first m × IsBlocked (vectors_of basis.moves) m.entries blocked
+ReducesInPlace basis first (Err blocked) m = IsLeftUnweighed basis first m × IsBlocked (vectors_of basis.moves) m.entries blocked

@@ -4,10 +4,10 @@ use Rattle.std.specs.Int.{bit_at}
 use Rattle.std.proofs.lemmas.Bool.{cases_lt, cases_eq}
 use Rattle.std.proofs.lemmas.List.{length_push, get_or_push, get_or_append_left}
 use Rattle.mk_support.specs.declared.block.Block.{Block}
-use Rattle.mk_support.specs.Blocks.{StandsAt, HoldsIn, IsThis, IsShare, IsShareWith}
+use Rattle.mk_support.specs.Blocks.{StandsInBlock, HoldsIn, IsThis, IsShare, IsShareWith}
 
 -- ---- a lead put at the end
-pub stands_kept : (masks places : List ℕ) (mask place m p : ℕ) → length masks ≡ length places → StandsAt masks places m p → StandsAt (masks ++ mask ∷ []) (places ++ place ∷ []) m p
+pub stands_kept : (masks places : List ℕ) (mask place m p : ℕ) → length masks ≡ length places → StandsInBlock masks places m p → StandsInBlock (masks ++ mask ∷ []) (places ++ place ∷ []) m p
 stands_kept masks places mask place m p same h = record {
   index = h.index;
   within = omega (arith, h.within, length_push masks mask);
@@ -15,7 +15,7 @@ stands_kept masks places mask place m p same h = record {
   place_at = get_or_append_left places (place ∷ []) 0 h.index (omega (arith, h.within, same)) ∙ h.place_at;
 }
 
-pub stands_last : (masks places : List ℕ) (mask place : ℕ) → length masks ≡ length places → StandsAt (masks ++ mask ∷ []) (places ++ place ∷ []) mask place
+pub stands_last : (masks places : List ℕ) (mask place : ℕ) → length masks ≡ length places → StandsInBlock (masks ++ mask ∷ []) (places ++ place ∷ []) mask place
 stands_last masks places mask place same = record {
   index = length masks;
   within = omega (arith, length_push masks mask);
@@ -23,10 +23,10 @@ stands_last masks places mask place same = record {
   place_at = get_or_push places place 0 (length masks) (sym same);
 }
 
-pub stands_pushed : (masks places : List ℕ) (mask place m p : ℕ) → length masks ≡ length places → StandsAt (masks ++ mask ∷ []) (places ++ place ∷ []) m p → StandsAt masks places m p ⊎ IsThis mask place m p
+pub stands_pushed : (masks places : List ℕ) (mask place m p : ℕ) → length masks ≡ length places → StandsInBlock (masks ++ mask ∷ []) (places ++ place ∷ []) m p → StandsInBlock masks places m p ⊎ IsThis mask place m p
 stands_pushed masks places mask place m p same h = go (cases_lt h.index (length masks))
   where
-    go : (h.index < length masks) ⊎ (length masks ≤ h.index) → StandsAt masks places m p ⊎ IsThis mask place m p
+    go : (h.index < length masks) ⊎ (length masks ≤ h.index) → StandsInBlock masks places m p ⊎ IsThis mask place m p
     go (inl l) = inl (record {
       index = h.index;
       within = l;
@@ -37,13 +37,13 @@ stands_pushed masks places mask place m p same h = go (cases_lt h.index (length 
         let last : length masks ≡ h.index = omega (arith, l, h.within, length_push masks mask) in
         inr (sym h.mask_at ∙ get_or_push masks mask 0 h.index last, sym h.place_at ∙ get_or_push places place 0 h.index (sym same ∙ last))
 
-pub none_stands : (places : List ℕ) (m p : ℕ) → StandsAt [] places m p → ⊥
+pub none_stands : (places : List ℕ) (m p : ℕ) → StandsInBlock [] places m p → ⊥
 none_stands places m p h = omega (arith, h.within)
 
 -- ---- the leads with a bit, of the first so many
 pub record IsShareUpTo (masks places : List ℕ) (bit wanted n : ℕ) (share_masks share_places : List ℕ) : Type 0 where
-  pub own : (m p : ℕ) → StandsAt share_masks share_places m p → StandsAt masks places m p × (bit_at m bit ≡ wanted)
-  pub whole : (k : ℕ) → k < n → bit_at (get_or masks k 0) bit ≡ wanted → StandsAt share_masks share_places (get_or masks k 0) (get_or places k 0)
+  pub own : (m p : ℕ) → StandsInBlock share_masks share_places m p → StandsInBlock masks places m p × (bit_at m bit ≡ wanted)
+  pub whole : (k : ℕ) → k < n → bit_at (get_or masks k 0) bit ≡ wanted → StandsInBlock share_masks share_places (get_or masks k 0) (get_or places k 0)
 
 pub share_none : (masks places : List ℕ) (bit wanted : ℕ) → IsShareUpTo masks places bit wanted 0 [] []
 share_none masks places bit wanted = record {
@@ -64,20 +64,20 @@ pub share_more : (masks places : List ℕ) (bit wanted n : ℕ) (sm sp : List �
 share_more masks places bit wanted n sm sp within same has h = record {
   own = λ m p s. own m p (stands_pushed sm sp (get_or masks n 0) (get_or places n 0) m p same s);
   whole = λ k l e. elim (cases_eq k n) [
-    | inl this ↦ subst (λ (i : ℕ). StandsAt (sm ++ get_or masks n 0 ∷ []) (sp ++ get_or places n 0 ∷ []) (get_or masks i 0) (get_or places i 0)) (sym this) (stands_last sm sp (get_or masks n 0) (get_or places n 0) same)
+    | inl this ↦ subst (λ (i : ℕ). StandsInBlock (sm ++ get_or masks n 0 ∷ []) (sp ++ get_or places n 0 ∷ []) (get_or masks i 0) (get_or places i 0)) (sym this) (stands_last sm sp (get_or masks n 0) (get_or places n 0) same)
     | inr apart ↦ stands_kept sm sp (get_or masks n 0) (get_or places n 0) (get_or masks k 0) (get_or places k 0) same (h.whole k (omega arith) e)
   ];
 }
   where
-    own : (m p : ℕ) → StandsAt sm sp m p ⊎ IsThis (get_or masks n 0) (get_or places n 0) m p → StandsAt masks places m p × (bit_at m bit ≡ wanted)
+    own : (m p : ℕ) → StandsInBlock sm sp m p ⊎ IsThis (get_or masks n 0) (get_or places n 0) m p → StandsInBlock masks places m p × (bit_at m bit ≡ wanted)
     own m p (inl s) = h.own m p s
     own m p (inr t) = (record { index = n; within = within; mask_at = sym t.0; place_at = sym t.1 }, ap (λ i. bit_at i bit) t.0 ∙ has)
 
 -- all of them
-pub share_whole : (masks places : List ℕ) (bit wanted n : ℕ) (sm sp : List ℕ) → length masks ≤ n → IsShareUpTo masks places bit wanted n sm sp → (m p : ℕ) → StandsAt masks places m p → bit_at m bit ≡ wanted → StandsAt sm sp m p
+pub share_whole : (masks places : List ℕ) (bit wanted n : ℕ) (sm sp : List ℕ) → length masks ≤ n → IsShareUpTo masks places bit wanted n sm sp → (m p : ℕ) → StandsInBlock masks places m p → bit_at m bit ≡ wanted → StandsInBlock sm sp m p
 share_whole masks places bit wanted n sm sp whole h m p s e =
-    subst (λ (i : ℕ). StandsAt sm sp i p) s.mask_at
-    (subst (λ (i : ℕ). StandsAt sm sp (get_or masks s.index 0) i) s.place_at (h.whole s.index (omega (arith, s.within)) (ap (λ i. bit_at i bit) s.mask_at ∙ e)))
+    subst (λ (i : ℕ). StandsInBlock sm sp i p) s.mask_at
+    (subst (λ (i : ℕ). StandsInBlock sm sp (get_or masks s.index 0) i) s.place_at (h.whole s.index (omega (arith, s.within)) (ap (λ i. bit_at i bit) s.mask_at ∙ e)))
 
 -- ---- a share, with another lead or without it
 pub with_this : (block : Block) (bit wanted mask place : ℕ) (share new : Block) → bit_at mask bit ≡ wanted → new.masks.items ≡ share.masks.items ++ mask ∷ [] → new.places.items ≡ share.places.items ++ place ∷ [] → IsShare block bit wanted share → IsShareWith block bit wanted mask place new
@@ -87,14 +87,14 @@ with_this block bit wanted mask place share new has masks_are places_are h = rec
   there = λ e. back mask place (stands_last share.masks.items share.places.items mask place share.paired);
 }
   where
-    pushed : (m p : ℕ) → HoldsIn new m p → StandsAt (share.masks.items ++ mask ∷ []) (share.places.items ++ place ∷ []) m p
+    pushed : (m p : ℕ) → HoldsIn new m p → StandsInBlock (share.masks.items ++ mask ∷ []) (share.places.items ++ place ∷ []) m p
     pushed m p s =
-        subst (λ (x : List ℕ). StandsAt x (share.places.items ++ place ∷ []) m p) masks_are (subst (λ (x : List ℕ). StandsAt new.masks.items x m p) places_are s)
+        subst (λ (x : List ℕ). StandsInBlock x (share.places.items ++ place ∷ []) m p) masks_are (subst (λ (x : List ℕ). StandsInBlock new.masks.items x m p) places_are s)
 
-    back : (m p : ℕ) → StandsAt (share.masks.items ++ mask ∷ []) (share.places.items ++ place ∷ []) m p → HoldsIn new m p
+    back : (m p : ℕ) → StandsInBlock (share.masks.items ++ mask ∷ []) (share.places.items ++ place ∷ []) m p → HoldsIn new m p
     back m p s =
-        subst (λ (x : List ℕ). StandsAt new.masks.items x m p) (sym places_are)
-        (subst (λ (x : List ℕ). StandsAt x (share.places.items ++ place ∷ []) m p) (sym masks_are) s)
+        subst (λ (x : List ℕ). StandsInBlock new.masks.items x m p) (sym places_are)
+        (subst (λ (x : List ℕ). StandsInBlock x (share.places.items ++ place ∷ []) m p) (sym masks_are) s)
 
     own : (m p : ℕ) → HoldsIn share m p ⊎ IsThis mask place m p → (HoldsIn block m p ⊎ IsThis mask place m p) × (bit_at m bit ≡ wanted)
     own m p (inl s) = (inl (h.own m p s).0, (h.own m p s).1)

@@ -14,7 +14,7 @@ use Rattle.mk_move.specs.declared.side.Side.{Side}
 use Rattle.mk_move.specs.Sides.{part_of}
 use Rattle.mk_move.proofs.Divisions.{length-part_of}
 use Rattle.mk_move.proofs.MaskTests.{not_dividing, same_block, covered_there}
-use Rattle.mk_support.specs.Blocks.{IsPlaced, IsRefused}
+use Rattle.mk_support.specs.Blocks.{IsPlacedLead, IsRefused}
 
 -- what holds of the lead at a place
 pub holds_at : (P : List ℤ → Type 0) (leads : List (List ℤ)) (place : ℕ) (lead : List ℤ) → All P leads → slice_get leads place ≡ Some lead → P lead
@@ -25,7 +25,7 @@ pub same_lead : (leads : List (List ℤ)) (place : ℕ) (one other : List ℤ) �
 same_lead leads place one other e f = sym (get_or_from_slice_get leads place one one e) ∙ get_or_from_slice_get leads place other one f
 
 -- a mask that doesn't fit
-pub refused_by_mask : (leads : List (List ℤ)) (y : List ℤ) (mask place outer : ℕ) → mask < 2 ^ 64 → outer < 2 ^ 64 → All (λ lead. length lead ≡ length y) leads → IsPlaced leads mask place → IsMask y outer → bit_and mask (bit_not w64 outer) ≢ 0 → IsRefused leads y place
+pub refused_by_mask : (leads : List (List ℤ)) (y : List ℤ) (mask place outer : ℕ) → mask < 2 ^ 64 → outer < 2 ^ 64 → All (λ lead. length lead ≡ length y) leads → IsPlacedLead leads mask place → IsMask y outer → bit_and mask (bit_not w64 outer) ≢ 0 → IsRefused leads y place
 refused_by_mask leads y mask place outer fits room columns placed g some lead at =
     not_dividing lead y mask outer fits room (holds_at (λ (x : List ℤ). length x ≡ length y) leads place lead columns at) (subst (λ (x : List ℤ). IsMask x mask) (same_lead leads place placed.lead lead placed.at at) placed.is_mask) g some
 
@@ -36,13 +36,13 @@ not_dividing_at x y outer block same there g clear d =
     omega (arith, clear, covered_there y outer block there.column g (same_block x y there.column same ∙ there.there) positive)
 
 -- a lead with a bit that the part hasn't
-pub refused_by_bit : (leads : List (List ℤ)) (y : List ℤ) (mask place outer bit : ℕ) → All (λ lead. length lead ≡ length y) leads → IsPlaced leads mask place → IsMask y outer → bit_at mask bit ≡ 1 → bit_at outer bit ≡ 0 → IsRefused leads y place
+pub refused_by_bit : (leads : List (List ℤ)) (y : List ℤ) (mask place outer bit : ℕ) → All (λ lead. length lead ≡ length y) leads → IsPlacedLead leads mask place → IsMask y outer → bit_at mask bit ≡ 1 → bit_at outer bit ≡ 0 → IsRefused leads y place
 refused_by_bit leads y mask place outer bit columns placed g set clear lead at =
     let is_mask = subst (λ (x : List ℤ). IsMask x mask) (same_lead leads place placed.lead lead placed.at at) placed.is_mask in
     not_dividing_at lead y outer bit (holds_at (λ (x : List ℤ). length x ≡ length y) leads place lead columns at) (is_mask.covered bit set) g clear
 
 -- a mask that fits: where the lead has an entry, the part has one
-pub within_by_mask : (leads : List (List ℤ)) (y lead : List ℤ) (mask place outer : ℕ) → mask < 2 ^ 64 → outer < 2 ^ 64 → IsPlaced leads mask place → slice_get leads place ≡ Some lead → IsMask y outer → bit_and mask (bit_not w64 outer) ≡ 0 → (block : ℕ) → HasPositive lead block → HasPositive y block
+pub within_by_mask : (leads : List (List ℤ)) (y lead : List ℤ) (mask place outer : ℕ) → mask < 2 ^ 64 → outer < 2 ^ 64 → IsPlacedLead leads mask place → slice_get leads place ≡ Some lead → IsMask y outer → bit_and mask (bit_not w64 outer) ≡ 0 → (block : ℕ) → HasPositive lead block → HasPositive y block
 within_by_mask leads y lead mask place outer fits room placed at g none block there = g.covered block (bit_within (cases_lt block 64))
   where
     set : bit_at mask block ≡ 1
@@ -61,7 +61,7 @@ pub refused_itself : (leads : List (List ℤ)) (y : List ℤ) (place : ℕ) (one
 refused_itself leads y place one e none lead at = subst (λ (x : List ℤ). ¬ (Divides x y)) (same_lead leads place one lead e at) none
 
 -- the element that is read at a place that has one
-pub read_at : (leads : List (List ℤ)) {mask : ℕ} (place : ℕ) (one : List ℤ) → IsPlaced leads mask place → one ≡ get_or leads place one → slice_get leads place ≡ Some one
+pub read_at : (leads : List (List ℤ)) {mask : ℕ} (place : ℕ) (one : List ℤ) → IsPlacedLead leads mask place → one ≡ get_or leads place one → slice_get leads place ≡ Some one
 read_at leads place one placed is = slice_get_read leads (length leads) place one refl (slice_get_within leads place placed.lead placed.at) is
 
 -- the leads have as many columns as the part

@@ -6,7 +6,7 @@ use Rattle.std.proofs.lemmas.Option.{slice_get_within, slice_get-get_or, get_or_
 use Rattle.mk_model.specs.Reductions.{Divides}
 use Rattle.mk_move.specs.Masks.{IsMask}
 use Rattle.mk_support.specs.declared.node.Node.{Node}
-use Rattle.mk_support.specs.Blocks.{IsPlaced, IsRefused, IsThis}
+use Rattle.mk_support.specs.Blocks.{IsPlacedLead, IsRefused, IsThis}
 use Rattle.mk_support.specs.Nodes.{Gains, IsSame}
 use Rattle.mk_support.specs.FirstBits.{Has, AreByFirst}
 use Rattle.mk_support.specs.Trees.{IsTree}
@@ -47,7 +47,7 @@ tree_more leads lead mask children new h room is_mask by_first gains = record {
   each = λ p l. each p l (cases_lt p (length leads));
 }
   where
-    placed : (m p : ℕ) → Has children m p ⊎ IsThis mask (length leads) m p → IsPlaced (leads ++ lead ∷ []) m p
+    placed : (m p : ℕ) → Has children m p ⊎ IsThis mask (length leads) m p → IsPlacedLead (leads ++ lead ∷ []) m p
     placed m p (inl s) =
         let old = h.placed m p s in
         record { lead = old.lead; at = at_push leads lead old.lead p old.at; is_mask = old.is_mask }

@@ -6,7 +6,7 @@ use Rattle.mk_move.specs.Masks.{IsMask}
 use Rattle.mk_support.specs.declared.block.Block.{Block}
 
 -- the mask and the place stand beside each other
-pub record StandsAt (masks places : List ℕ) (mask place : ℕ) : Type 0 where
+pub record StandsInBlock (masks places : List ℕ) (mask place : ℕ) : Type 0 where
   pub index : ℕ
   pub within : index < length masks
   pub mask_at : slice_index masks index ≡ mask
@@ -14,10 +14,10 @@ pub record StandsAt (masks places : List ℕ) (mask place : ℕ) : Type 0 where
 
 -- the block has this place with that mask
 abbrev pub HoldsIn : Block → ℕ → ℕ → Type 0
-HoldsIn block mask place = StandsAt block.masks.items block.places.items mask place
+HoldsIn block mask place = StandsInBlock block.masks.items block.places.items mask place
 
 -- the mask is that of the lead at this place
-pub record IsPlaced (leads : List (List ℤ)) (mask place : ℕ) : Type 0 where
+pub record IsPlacedLead (leads : List (List ℤ)) (mask place : ℕ) : Type 0 where
   pub lead : List ℤ
   pub at : slice_get leads place ≡ Some lead
   pub is_mask : IsMask lead mask

@@ -4,7 +4,7 @@ use Rattle.std.specs.Int.{bit_at}
 use Rattle.mk_support.specs.declared.block.Block.{Block}
 use Rattle.mk_support.specs.declared.node.Node.{Node}
 use Rattle.mk_support.specs.declared.node.Node.TheVariants.{Leaf, Fork'}
-use Rattle.mk_support.specs.Blocks.{HoldsIn, IsPlaced, IsThis}
+use Rattle.mk_support.specs.Blocks.{HoldsIn, IsPlacedLead, IsThis}
 
 -- the tree has this place with that mask
 abbrev pub Holds : Node → ℕ → ℕ → Type 0
@@ -13,7 +13,7 @@ Holds (Fork' bit a with b without) m p = Holds with m p ⊎ Holds without m p
 
 -- each mask of the tree is that of the lead at its place
 abbrev pub ArePlaced : List (List ℤ) → Node → Type 0
-ArePlaced leads node = (m p : ℕ) → Holds node m p → IsPlaced leads m p
+ArePlaced leads node = (m p : ℕ) → Holds node m p → IsPlacedLead leads m p
 
 -- on the first side of a fork each mask has its bit
 abbrev pub AreSplit : Node → Type 0

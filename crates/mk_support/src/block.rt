@@ -23,7 +23,7 @@ impl Block {
     ghost use Rattle.std.specs.Prelude.{◌≢◌};
     ghost use Rattle.mk_move.specs.Sides.{part_of, DividesAt};
     ghost use Rattle.mk_move.specs.Masks.{IsMask};
-    ghost use Rattle.mk_support.specs.Blocks.{HoldsIn, IsPlaced, IsRefused, IsShare, IsShareWith, TellsApart};
+    ghost use Rattle.mk_support.specs.Blocks.{HoldsIn, IsPlacedLead, IsRefused, IsShare, IsShareWith, TellsApart};
 
     /// A block without leads.
     pub(crate) fn new(alloc: Global) -> Block
@@ -60,7 +60,7 @@ impl Block {
         end: u32,
     ) -> Option<u32>
         requires columns { All (λ lead. length lead ≡ length r.now.entries) leads.now }
-        requires placed { (m p : ℕ) → HoldsIn self.now m p → IsPlaced leads.now m p }
+        requires placed { (m p : ℕ) → HoldsIn self.now m p → IsPlacedLead leads.now m p }
         requires part { IsMask (part_of side r.now.entries) part }
         ensures found { IfSome result (DividesAt leads.now (part_of side r.now.entries)) }
         ensures none { IfNone result ((m p : ℕ) → HoldsIn self.now m p → p < end → IsRefused leads.now (part_of side r.now.entries) p) }

@@ -1,7 +1,7 @@
 ghost use Rattle.std.specs.Prelude.{◌≡◌, ◌<◌, length, All, IfSome, IfNone, IfOk, OnOk, OnErr, ℕ};
 ghost use Rattle.mk_move.specs.Sides.{part_of, DividesAt};
 ghost use Rattle.mk_move.specs.Masks.{IsMask};
-ghost use Rattle.mk_support.specs.Blocks.{IsPlaced, IsRefused};
+ghost use Rattle.mk_support.specs.Blocks.{IsPlacedLead, IsRefused};
 ghost use Rattle.mk_support.specs.Nodes.{Gains, IsSame};
 ghost use Rattle.mk_support.specs.FirstBits.{Has, AreByFirst, IsEmpty};
 
@@ -46,7 +46,7 @@ impl Children {
     ) -> Option<u32>
         requires columns { All (λ lead. length lead ≡ length r.now.entries) leads.now }
         requires by_first { AreByFirst self.now.by_first.items }
-        requires placed { (m p : ℕ) → Has self.now.by_first.items m p → IsPlaced leads.now m p }
+        requires placed { (m p : ℕ) → Has self.now.by_first.items m p → IsPlacedLead leads.now m p }
         requires part { IsMask (part_of side r.now.entries) part }
         ensures found { IfSome result (DividesAt leads.now (part_of side r.now.entries)) }
         ensures none { IfNone result ((m p : ℕ) → Has self.now.by_first.items m p → p < end → IsRefused leads.now (part_of side r.now.entries) p) }

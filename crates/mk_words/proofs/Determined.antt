@@ -7,7 +7,7 @@ use Rattle.mk_words.specs.declared.pieces.Next.TheVariants as next
 use Rattle.mk_words.specs.declared.request.Request.{Request}
 use Rattle.mk_words.specs.declared.request.Task.{Task}
 use Rattle.mk_words.specs.declared.request.Task.TheVariants as task
-use Rattle.mk_words.specs.Words.{Word, Piece, option, plain, IsLine}
+use Rattle.mk_words.specs.Words.{Word, Piece, option, plain, IsCommandLine}
 use Rattle.mk_words.specs.Reading.{GoesOn, IsOnlyLine, IsNoLine}
 use Rattle.mk_words.specs.Requests.{IsChosen, IsBound, IsTask, AreSizes, Asks, IsRequest, IsOnlyRequest, AreWrong, WantOne, values_of, plains_of}
 use Rattle.mk_words.proofs.Steps.{whole_end, whole_bare, whole_both, whole_word}
@@ -49,7 +49,7 @@ go_same : (words : List Word) → GoSame words
 go_same [] = record { same = end_same }
 go_same (w ∷ words) = record { same = λ before one other g h. step_same w words before one other (go_same words) g h }
 
-pub same_line : (words : List Word) (one other : List Piece) → IsLine words one → IsLine words other → one ≡ other
+pub same_line : (words : List Word) (one other : List Piece) → IsCommandLine words one → IsCommandLine words other → one ≡ other
 same_line words one other g h = (go_same words).same next.Any one other (line_goes words one g) (line_goes words other h)
 
 same_chosen : (least most default : ℕ) (values : List Word) (a b : ℕ) → IsChosen least most default values a → IsChosen least most default values b → a ≡ b

@@ -4,7 +4,7 @@ use Rattle.std.proofs.lemmas.List.{append-nil, drop_all}
 use Rattle.mk_words.specs.declared.kinds.Setting.{Setting}
 use Rattle.mk_words.specs.declared.pieces.Next.{Next}
 use Rattle.mk_words.specs.declared.pieces.Next.TheVariants as next
-use Rattle.mk_words.specs.Words.{Word, Piece, option, plain, name_of, end_of_options, IsLine, IsWritten, AreWritten, behind, plain_behind}
+use Rattle.mk_words.specs.Words.{Word, Piece, option, plain, option_name, end_of_options, IsCommandLine, IsWritten, AreWritten, behind, plain_behind}
 use Rattle.mk_words.specs.Reading.{GoesOn, Takes, HasRead, IsOnlyLine, IsNoLine}
 
 -- plain words behind the end of the options
@@ -46,20 +46,20 @@ front_goes (piece ∷ before) front later h =
     subst (λ (f : List Word). GoesOn f next.Any (piece ∷ (before ++ plain_behind later))) (sym same) goes
 
 -- a line is read
-pub line_goes : (words : List Word) (pieces : List Piece) → IsLine words pieces → GoesOn words next.Any pieces
+pub line_goes : (words : List Word) (pieces : List Piece) → IsCommandLine words pieces → GoesOn words next.Any pieces
 line_goes words pieces line =
     subst (λ (w : List Word). GoesOn w next.Any pieces) (sym line.whole) (subst (λ (p : List Piece). GoesOn (line.front ++ behind line.later) next.Any p) (sym line.all) (front_goes line.before line.front line.later line.written))
 
 -- what is read is a line
-empty_line : (pieces : List Piece) → pieces ≡ [] → IsLine [] pieces
+empty_line : (pieces : List Piece) → pieces ≡ [] → IsCommandLine [] pieces
 unfolding AreWritten
 empty_line pieces e = record { front = []; before = []; later = None; written = refl; whole = refl; all = e }
 
-end_line : (w : Word) (words : List Word) (pieces : List Piece) → w ≡ end_of_options → pieces ≡ map plain words → IsLine (w ∷ words) pieces
+end_line : (w : Word) (words : List Word) (pieces : List Piece) → w ≡ end_of_options → pieces ≡ map plain words → IsCommandLine (w ∷ words) pieces
 unfolding AreWritten
 end_line w words pieces e p = record { front = []; before = []; later = Some words; written = refl; whole = ap (λ x. x ∷ words) e; all = p }
 
-line_more : (piece : Piece) (first rest words : List Word) (more pieces : List Piece) → IsWritten piece first → words ≡ first ++ rest → pieces ≡ piece ∷ more → IsLine rest more → IsLine words pieces
+line_more : (piece : Piece) (first rest words : List Word) (more pieces : List Piece) → IsWritten piece first → words ≡ first ++ rest → pieces ≡ piece ∷ more → IsCommandLine rest more → IsCommandLine words pieces
 unfolding AreWritten
 line_more piece first rest words more pieces written e p line = record {
   front = first ++ line.front;
@@ -72,10 +72,10 @@ line_more piece first rest words more pieces written e p line = record {
 
 -- both ways to go on at once: with any word, and with the value of an option that stands before
 record AreLines (words : List Word) : Type 0 where
-  any : (pieces : List Piece) → GoesOn words next.Any pieces → IsLine words pieces
-  value : (s : Setting) (w : Word) (pieces : List Piece) → w ≡ name_of s → GoesOn words (next.Value s) pieces → IsLine (w ∷ words) pieces
+  any : (pieces : List Piece) → GoesOn words next.Any pieces → IsCommandLine words pieces
+  value : (s : Setting) (w : Word) (pieces : List Piece) → w ≡ option_name s → GoesOn words (next.Value s) pieces → IsCommandLine (w ∷ words) pieces
 
-any_line : (w : Word) (words : List Word) (pieces : List Piece) → AreLines words → GoesOn (w ∷ words) next.Any pieces → IsLine (w ∷ words) pieces
+any_line : (w : Word) (words : List Word) (pieces : List Piece) → AreLines words → GoesOn (w ∷ words) next.Any pieces → IsCommandLine (w ∷ words) pieces
 unfolding GoesOn
 any_line w words pieces rest (inl p) = end_line w words pieces p.0 (plain_only words pieces p.1)
 any_line w words pieces rest (inr (inl p)) = rest.value p.0 w pieces p.1 p.2
@@ -84,7 +84,7 @@ any_line w words pieces rest (inr (inr (inl p))) =
 any_line w words pieces rest (inr (inr (inr p))) =
     line_more (plain w) (w ∷ []) words (w ∷ words) p.1.0 pieces (refl, p.0) refl p.1.1 (rest.any p.1.0 p.1.2)
 
-value_line : (s : Setting) (name v : Word) (words : List Word) (pieces : List Piece) → AreLines words → name ≡ name_of s → GoesOn (v ∷ words) (next.Value s) pieces → IsLine (name ∷ v ∷ words) pieces
+value_line : (s : Setting) (name v : Word) (words : List Word) (pieces : List Piece) → AreLines words → name ≡ option_name s → GoesOn (v ∷ words) (next.Value s) pieces → IsCommandLine (name ∷ v ∷ words) pieces
 unfolding GoesOn
 value_line s name v words pieces rest e h =
     line_more (option s v) (name ∷ v ∷ []) words (name ∷ v ∷ words) h.1.0 pieces (inl (ap (λ x. x ∷ v ∷ []) e, h.0)) refl h.1.1 (rest.any h.1.0 h.1.2)
@@ -107,7 +107,7 @@ are_lines (w ∷ words) = record {
   value = λ s name pieces e h. value_line s name w words pieces (are_lines words) e h;
 }
 
-pub goes_is_line : (words : List Word) (pieces : List Piece) → GoesOn words next.Any pieces → IsLine words pieces
+pub goes_is_line : (words : List Word) (pieces : List Piece) → GoesOn words next.Any pieces → IsCommandLine words pieces
 goes_is_line words = (are_lines words).any
 
 -- one word more

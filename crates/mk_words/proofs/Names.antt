@@ -2,7 +2,7 @@
 use Rattle.std.proofs.Common.{◌≡◌, ◌≢◌, ◌<◌, ℕ, length, get_or, refl, sym, ap, ◌∙◌, arith}
 use Rattle.mk_words.specs.declared.kinds.Setting.{Setting}
 use Rattle.mk_words.specs.declared.kinds.Setting.TheVariants.{Workers, Budget, Upto, Model}
-use Rattle.mk_words.specs.Words.{Word, name_of, with_value, end_of_options, IsOptionWord}
+use Rattle.mk_words.specs.Words.{Word, option_name, with_value, end_of_options, IsOptionWord}
 
 letter : Setting → ℕ
 letter Workers = 119
@@ -13,7 +13,7 @@ letter Model = 109
 third : Word → ℕ
 third w = get_or w 2 0
 
-third_of_name : (s : Setting) → third (name_of s) ≡ letter s
+third_of_name : (s : Setting) → third (option_name s) ≡ letter s
 unfolding third letter
 third_of_name Workers = refl
 third_of_name Budget = refl
@@ -57,28 +57,28 @@ third_of_end : third end_of_options ≡ 0
 unfolding third
 third_of_end = refl
 
-pub name_no_end : (s : Setting) → name_of s ≢ end_of_options
+pub name_no_end : (s : Setting) → option_name s ≢ end_of_options
 name_no_end s e = let some = some_letter s in let zero : letter s ≡ 0 = sym (third_of_name s) ∙ ap third e ∙ third_of_end in absurd (omega arith)
 
 pub both_no_end : (s : Setting) (v : Word) → with_value s v ≢ end_of_options
 both_no_end s v e = let some = some_letter s in let zero : letter s ≡ 0 = sym (third_of_both s v) ∙ ap third e ∙ third_of_end in absurd (omega arith)
 
-pub same_name : (s t : Setting) → name_of s ≡ name_of t → s ≡ t
+pub same_name : (s t : Setting) → option_name s ≡ option_name t → s ≡ t
 same_name s t e = same_letter s t (sym (third_of_name s) ∙ ap third e ∙ third_of_name t)
 
 pub same_both : (s t : Setting) (v w : Word) → with_value s v ≡ with_value t w → s ≡ t
 same_both s t v w e = same_letter s t (sym (third_of_both s v) ∙ ap third e ∙ third_of_both t w)
 
-name_or_both : (s t : Setting) (v : Word) → name_of s ≡ with_value t v → s ≡ t
+name_or_both : (s t : Setting) (v : Word) → option_name s ≡ with_value t v → s ≡ t
 name_or_both s t v e = same_letter s t (sym (third_of_name s) ∙ ap third e ∙ third_of_both t v)
 
-longer : (s : Setting) (v : Word) → name_of s ≢ with_value s v
+longer : (s : Setting) (v : Word) → option_name s ≢ with_value s v
 longer Workers v e = let same = ap length e in absurd (grind arith)
 longer Budget v e = let same = ap length e in absurd (grind arith)
 longer Upto v e = let same = ap length e in absurd (grind arith)
 longer Model v e = let same = ap length e in absurd (grind arith)
 
-pub name_no_both : (s t : Setting) (v : Word) → name_of s ≢ with_value t v
+pub name_no_both : (s t : Setting) (v : Word) → option_name s ≢ with_value t v
 name_no_both s t v e = longer s v (e ∙ ap (λ u. with_value u v) (sym (name_or_both s t v e)))
 
 pub same_value : (s : Setting) (v w : Word) → with_value s v ≡ with_value s w → v ≡ w
@@ -87,7 +87,7 @@ same_value Budget v w e = cc
 same_value Upto v w e = cc
 same_value Model v w e = cc
 
-pub name_is_option : (s : Setting) → IsOptionWord (name_of s)
+pub name_is_option : (s : Setting) → IsOptionWord (option_name s)
 name_is_option Workers = (omega arith, refl)
 name_is_option Budget = (omega arith, refl)
 name_is_option Upto = (omega arith, refl)

@@ -2,7 +2,7 @@
 use Rattle.std.proofs.Common.{◌≡◌, ◌≢◌, List, [], ◌∷◌, inl, inr, refl, sym, ap, subst, ◌∙◌}
 use Rattle.mk_words.specs.declared.kinds.Setting.{Setting}
 use Rattle.mk_words.specs.declared.pieces.Next.TheVariants as next
-use Rattle.mk_words.specs.Words.{Word, Piece, option, plain, name_of, with_value, end_of_options, IsOptionWord}
+use Rattle.mk_words.specs.Words.{Word, Piece, option, plain, option_name, with_value, end_of_options, IsOptionWord}
 use Rattle.mk_words.specs.Kinds.{NamesNot}
 use Rattle.mk_words.specs.Reading.{GoesOn, Takes}
 use Rattle.mk_words.proofs.Names.{name_no_end, both_no_end, same_name, same_both, name_no_both, same_value, name_is_option, both_is_option, end_is_option}
@@ -43,14 +43,14 @@ takes_end w e = record {
   whole = λ words all h. whole_end w words all e h;
 }
 
-pub whole_bare : (s : Setting) (w : Word) (words : List Word) (all : List Piece) → w ≡ name_of s → GoesOn (w ∷ words) next.Any all → (more : List Piece) × (all ≡ more) × GoesOn words (next.Value s) more
+pub whole_bare : (s : Setting) (w : Word) (words : List Word) (all : List Piece) → w ≡ option_name s → GoesOn (w ∷ words) next.Any all → (more : List Piece) × (all ≡ more) × GoesOn words (next.Value s) more
 unfolding GoesOn
 whole_bare s w words all e (inl p) = absurd (name_no_end s (sym e ∙ p.0))
 whole_bare s w words all e (inr (inl p)) = (all, refl, subst (λ (t : Setting). GoesOn words (next.Value t) all) (same_name p.0 s (sym p.1 ∙ e)) p.2)
 whole_bare s w words all e (inr (inr (inl p))) = absurd (name_no_both s p.0 p.1 (sym e ∙ p.3))
-whole_bare s w words all e (inr (inr (inr p))) = absurd (option_no_plain (name_of s) (name_is_option s) w e p.0)
+whole_bare s w words all e (inr (inr (inr p))) = absurd (option_no_plain (option_name s) (name_is_option s) w e p.0)
 
-pub takes_bare : (s : Setting) (w : Word) → w ≡ name_of s → Takes next.Any w [] (next.Value s)
+pub takes_bare : (s : Setting) (w : Word) → w ≡ option_name s → Takes next.Any w [] (next.Value s)
 unfolding GoesOn
 takes_bare s w e = record {
   sound = λ words more h. inr (inl (s, e, h));

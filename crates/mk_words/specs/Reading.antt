@@ -6,7 +6,7 @@ use Rattle.mk_words.specs.declared.pieces.Next.TheVariants as next
 use Rattle.mk_words.specs.declared.pieces.Part.{Part}
 use Rattle.mk_words.specs.declared.pieces.Part.TheVariants as part
 use Rattle.mk_words.specs.declared.pieces.Step.{Step}
-use Rattle.mk_words.specs.Words.{Word, Piece, option, plain, name_of, with_value, end_of_options, IsOptionWord, IsLine}
+use Rattle.mk_words.specs.Words.{Word, Piece, option, plain, option_name, with_value, end_of_options, IsOptionWord, IsCommandLine}
 
 -- the piece that the code's part stands for
 abbrev pub piece_of : Part → Piece
@@ -25,7 +25,7 @@ GoesOn [] (next.Value s) pieces = ⊥
 GoesOn [] next.Plain pieces = pieces ≡ []
 GoesOn (w ∷ words) next.Any pieces =
     ((w ≡ end_of_options) × GoesOn words next.Plain pieces)
-    ⊎ ((s : Setting) × (w ≡ name_of s) × GoesOn words (next.Value s) pieces)
+    ⊎ ((s : Setting) × (w ≡ option_name s) × GoesOn words (next.Value s) pieces)
     ⊎ ((s : Setting) × (v : Word) × (more : List Piece) × (w ≡ with_value s v) × (pieces ≡ option s v ∷ more) × GoesOn words next.Any more)
     ⊎ (¬ (IsOptionWord w) × ((more : List Piece) × (pieces ≡ plain w ∷ more) × GoesOn words next.Any more))
 GoesOn (w ∷ words) (next.Value s) pieces =
@@ -39,9 +39,9 @@ pub record Takes (before : Next) (w : Word) (pieces : List Piece) (behind : Next
       → (more : List Piece) × (all ≡ pieces ++ more) × GoesOn words behind more
 
 -- what a word does, and that the words stop at it where it can do nothing
-abbrev pub IsStep : Next → Word → Option Step → Type 0
-IsStep before w (Some step) = Takes before w (pieces_of step.part) step.next
-IsStep before w None = (words : List Word) (all : List Piece) → GoesOn (w ∷ words) before all → ⊥
+abbrev pub IsReadingStep : Next → Word → Option Step → Type 0
+IsReadingStep before w (Some step) = Takes before w (pieces_of step.part) step.next
+IsReadingStep before w None = (words : List Word) (all : List Piece) → GoesOn (w ∷ words) before all → ⊥
 
 -- the words so far gave these pieces, and the rest may go on
 pub record HasRead (words : List Word) (done : List Piece) (rest : List Word) (behind : Next) : Type 0 where
@@ -51,9 +51,9 @@ pub record HasRead (words : List Word) (done : List Piece) (rest : List Word) (b
 
 -- the words are a line of these pieces and of no others
 pub record IsOnlyLine (words : List Word) (pieces : List Piece) : Type 0 where
-  pub line : IsLine words pieces
-  pub alone : (other : List Piece) → IsLine words other → other ≡ pieces
+  pub line : IsCommandLine words pieces
+  pub alone : (other : List Piece) → IsCommandLine words other → other ≡ pieces
 
 -- the words are a line of no pieces
 abbrev pub IsNoLine : List Word → Type 0
-IsNoLine words = (pieces : List Piece) → IsLine words pieces → ⊥
+IsNoLine words = (pieces : List Piece) → IsCommandLine words pieces → ⊥

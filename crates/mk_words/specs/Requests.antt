@@ -9,7 +9,7 @@ use Rattle.mk_words.specs.declared.request.Request.{Request}
 use Rattle.mk_words.specs.declared.request.Task.{Task}
 use Rattle.mk_words.specs.declared.request.Task.TheVariants as task
 use Rattle.mk_words.specs.SmallSizes.{product}
-use Rattle.mk_words.specs.Words.{Word, Piece, option, plain, IsLine}
+use Rattle.mk_words.specs.Words.{Word, Piece, option, plain, IsCommandLine}
 
 -- is it the same option
 abbrev pub same : Setting → Setting → Bool
@@ -87,7 +87,7 @@ pub record Asks (pieces : List Piece) (request : Request) : Type 0 where
 -- The words ask for this. Where they ask for nothing, they are not in the language.
 pub record IsRequest (words : List Word) (request : Request) : Type 0 where
   pub pieces : List Piece
-  pub line : IsLine words pieces
+  pub line : IsCommandLine words pieces
   pub asked : Asks pieces request
 
 -- the words ask for nothing else

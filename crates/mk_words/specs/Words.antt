@@ -8,15 +8,15 @@ abbrev pub Word : Type 0
 Word = List ℕ
 
 -- the word that names the option
-abbrev pub name_of : Setting → Word
-name_of Workers = codes "--workers"
-name_of Budget = codes "--budget"
-name_of Upto = codes "--upto"
-name_of Model = codes "--model"
+abbrev pub option_name : Setting → Word
+option_name Workers = codes "--workers"
+option_name Budget = codes "--budget"
+option_name Upto = codes "--upto"
+option_name Model = codes "--model"
 
 -- the option and its value as one word, with `=` between them
 abbrev pub with_value : Setting → Word → Word
-with_value s v = name_of s ++ 61 ∷ v
+with_value s v = option_name s ++ 61 ∷ v
 
 -- the word `--`, which ends the options
 abbrev pub end_of_options : Word
@@ -35,7 +35,7 @@ pub data Piece : Type 0 where
 -- option word, or as one; a plain word as itself, where it is no option word.
 abbrev pub IsWritten : Piece → List Word → Type 0
 IsWritten (option s v) words =
-    ((words ≡ name_of s ∷ v ∷ []) × ¬ (IsOptionWord v)) ⊎ (words ≡ with_value s v ∷ [])
+    ((words ≡ option_name s ∷ v ∷ []) × ¬ (IsOptionWord v)) ⊎ (words ≡ with_value s v ∷ [])
 IsWritten (plain w) words = (words ≡ w ∷ []) × ¬ (IsOptionWord w)
 
 -- the words are those of the pieces, one after another
@@ -55,7 +55,7 @@ plain_behind None = []
 plain_behind (Some later) = map plain later
 
 -- the words are a line of these pieces: pieces that are written before `--`, and plain words behind it
-pub record IsLine (words : List Word) (pieces : List Piece) : Type 0 where
+pub record IsCommandLine (words : List Word) (pieces : List Piece) : Type 0 where
   pub front : List Word
   pub before : List Piece
   pub later : Option (List Word)

@@ -1,7 +1,7 @@
 //! What one word is.
 
 ghost use Rattle.std.specs.Prelude.{◌≡◌, ◌↔◌, IsTrue, IfSome, IfNone};
-ghost use Rattle.mk_words.specs.Words.{name_of, IsOptionWord};
+ghost use Rattle.mk_words.specs.Words.{option_name, IsOptionWord};
 ghost use Rattle.mk_words.specs.Kinds.{IsNaming, IsKind, NamesNot};
 
 /// An option of the command line.
@@ -43,7 +43,7 @@ pub(crate) enum Kind<'a> {
 
 /// The word that names the option.
 fn name(setting: Setting) -> &'static [u8]
-    ensures { result.now ≡ name_of setting }
+    ensures { result.now ≡ option_name setting }
 {
     match setting {
         Setting::Workers => b"--workers",

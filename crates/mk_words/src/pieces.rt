@@ -1,7 +1,7 @@
 //! The pieces of a command line.
 
 ghost use Rattle.std.specs.Prelude.{◌≡◌, ◌++◌, IfOk, MatchOption, map, string_bytes};
-ghost use Rattle.mk_words.specs.Reading.{piece_of, pieces_of, IsNoLine, IsOnlyLine, IsStep};
+ghost use Rattle.mk_words.specs.Reading.{piece_of, pieces_of, IsNoLine, IsOnlyLine, IsReadingStep};
 
 use crate::kinds::{Kind, Setting, is_option_word, kind_of};
 use mk_model::NoMemory;
@@ -45,7 +45,7 @@ impl<'a> Step<'a> {
 /// What a word gives that may be an option.
 #[tactic(auto, using(crate::proofs::Steps::takes_end, crate::proofs::Steps::takes_word, crate::proofs::Steps::takes_bare, crate::proofs::Steps::takes_both, crate::proofs::Steps::refuses_unknown))]
 fn any_step(word: &str) -> Option<Step<'_>>
-    ensures { IsStep Next.Any word.now result }
+    ensures { IsReadingStep Next.Any word.now result }
 {
     match kind_of(word.as_bytes()) {
         Kind::End => Some(Step::new(None, Next::Plain)),
@@ -59,7 +59,7 @@ fn any_step(word: &str) -> Option<Step<'_>>
 /// What a word gives where an option waits for its value.
 #[tactic(auto, using(crate::proofs::Steps::takes_value, crate::proofs::Steps::refuses_value))]
 fn value_step(setting: Setting, word: &str) -> Option<Step<'_>>
-    ensures { IsStep (Next.Value setting) word.now result }
+    ensures { IsReadingStep (Next.Value setting) word.now result }
 {
     if is_option_word(word.as_bytes()) {
         return None;
@@ -70,14 +70,14 @@ fn value_step(setting: Setting, word: &str) -> Option<Step<'_>>
 /// What a word gives behind the end of the options.
 #[tactic(auto, using(crate::proofs::Steps::takes_plain))]
 fn plain_step(word: &str) -> Option<Step<'_>>
-    ensures { IsStep Next.Plain word.now result }
+    ensures { IsReadingStep Next.Plain word.now result }
 {
     Some(Step::new(Some(Part::Plain(word)), Next::Plain))
 }
 
 /// What a word gives where it may be what `next` says.
 fn step_at(next: Next, word: &str) -> Option<Step<'_>>
-    ensures { IsStep next word.now result }
+    ensures { IsReadingStep next word.now result }
 {
     match next {
         Next::Any => any_step(word),

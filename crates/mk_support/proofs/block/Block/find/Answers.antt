@@ -3,7 +3,7 @@ use borrow.Author.Count.{below_more}
 use Rattle.std.proofs.lemmas.Bool.{false≢true}
 use Rattle.std.proofs.lemmas.Option.{slice_get_within}
 use Rattle.mk_move.specs.Sides.{part_of}
-use Rattle.mk_support.specs.Blocks.{HoldsIn, IsPlaced, IsRefused}
+use Rattle.mk_support.specs.Blocks.{HoldsIn, IsPlacedLead, IsRefused}
 use Rattle.mk_support.proofs.Searches.{as_wide, holds_at, read_at, refused_by_mask, within_by_mask, refused_itself}
 use Rattle.mk_support.proofs.block.Block.find.Goals as goal
 use Rattle.mk_support.proofs.block.Block.find.Goals.{In-loop-index, then-mask-part-eq0+else-place-end, else-mask-part-eq0, else-place-end-via-then-place-end+else-divides_within, else-place-end-via-else-place-end}
@@ -23,7 +23,7 @@ there c = record {
   place_at = ap (λ (x : List ℕ). get_or x c.loop-index.index 0) (sym c.as_slice-places.ensures.value);
 }
 
-placed : (c : In-loop-index) → IsPlaced c.args.leads.now (mask c) (place c)
+placed : (c : In-loop-index) → IsPlacedLead c.args.leads.now (mask c) (place c)
 placed c = c.requires.placed (mask c) (place c) (there c)
 
 -- src/block.rt:63:20

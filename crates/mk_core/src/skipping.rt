@@ -42,6 +42,10 @@ pub(crate) fn have_coprime_leads(basis: &Basis, i: u32, j: u32) -> bool
     requires second { j < length basis.now.moves }
     ensures { IsTrue result ↔ AreDisjoint (lead (move_at (vectors_of basis.now.moves) i)) (lead (move_at (vectors_of basis.now.moves) j)) }
 {
+    let masks = basis.lead_masks();
+    if masks[i as usize] & masks[j as usize] == 0 {
+        return true;
+    }
     coprime_leads(basis.move_at(i), basis.move_at(j))
 }
 

@@ -50,8 +50,13 @@ impl ThirdMoves {
         ensures { IfOk result (λ found. IfSome found (IsChain ledger.now.state.basis ledger.now.state.journal (pair_of i j))) }
     {
         let basis = ledger.basis();
+        let masks = basis.lead_masks();
+        let outside = !(masks[i as usize] | masks[j as usize]);
         match self.last {
-            Some(k) if k < basis.len() && is_chain(basis, ledger, i, j, k) => Ok(Some(k)),
+            Some(k)
+                if k < basis.len()
+                    && masks[k as usize] & outside == 0
+                    && is_chain(basis, ledger, i, j, k) => { Ok(Some(k)) }
             _ => {
                 self.turn_to(basis, j)?;
                 let found = self.search(ledger, i, j);

@@ -17,7 +17,10 @@ use Rattle.mk_move.specs.Masks.{IsMask}
 use Rattle.mk_move.specs.Moves.{Weighed}
 use Rattle.mk_move.specs.MoveLists.{BasisView, IsBasis, AreLeadMasks, vectors_of}
 use Rattle.mk_move.proofs.Chains.{mask_of_lcm}
-use Rattle.mk_move.proofs.MaskTests.{not_dividing}
+use Rattle.mk_move.proofs.MaskTests.{apart_disjoint, not_dividing}
+use Rattle.mk_move.proofs.Divisions.{part_of_nonnegative}
+use Rattle.mk_move.specs.declared.side.Side.TheVariants.{Plus}
+use Rattle.mk_model.specs.Pairs.{AreDisjoint}
 
 -- ---- one move more
 module _ (moves : List Weighed) (m : Weighed) where
@@ -84,3 +87,13 @@ not_between basis masks i j k h g first second third fits some =
 
     lengths : (length a ≡ length basis.priority) × (length b ≡ length basis.priority) × (length v ≡ length basis.priority)
     lengths = (lead_columns i first, lead_columns j second, lead_columns k third)
+
+-- masks without a bit in common: the leads are disjoint
+pub disjoint_by_masks : (basis : BasisView) (masks : List ℕ) (i j : ℕ) → IsBasis basis → AreLeadMasks basis.moves masks → i < length basis.moves → j < length basis.moves →
+    bit_and (get_or masks i 0) (get_or masks j 0) ≡ 0 → AreDisjoint (lead (move_at (vectors_of basis.moves) i)) (lead (move_at (vectors_of basis.moves) j))
+disjoint_by_masks basis masks i j h g first second none =
+    let a = move_at (vectors_of basis.moves) i in
+    let b = move_at (vectors_of basis.moves) j in
+    apart_disjoint (lead a) (lead b) (get_or masks i 0) (get_or masks j 0)
+    (length-positive_part a ∙ columns_at basis i h first ∙ sym (length-positive_part b ∙ columns_at basis j h second))
+    (part_of_nonnegative Plus a) (part_of_nonnegative Plus b) (g.each i first) (g.each j second) none

@@ -1,11 +1,12 @@
 -- Leads of a list that do not divide a part.
-use Rattle.std.proofs.Common.{◌≡◌, ◌≢◌, ◌⊎◌, inl, inr, ◌∙◌, ap, ℕ, ◌^◌, ◌<◌, ◌≤◌, List, length, get_or, All, arith, refl, sym, subst, ℤ, Option, None, Some, IfNone, slice_get, w64, pos, ◌<ℤ◌}
+use Rattle.std.proofs.Common.{◌≡◌, ◌≢◌, ◌⊎◌, inl, inr, ◌∙◌, ap, ℕ, ◌^◌, ◌<◌, ◌≤◌, List, length, get_or, All, arith, refl, sym, subst, ℤ, Option, None, Some, IfNone, false, slice_get, w64, pos, ◌<ℤ◌}
 use Rattle.std.specs.Int.{bit_at, bit_not}
 use Rattle.std.specs.Int.RustNames.{bit_and}
 use Rattle.std.proofs.lemmas.List.Elements.{All-weaker}
 use Rattle.std.proofs.lemmas.Option.{slice_get_within, slice_get_read, get_or_from_slice_get}
 use Rattle.mk_model.specs.Reductions.{Divides}
-use Rattle.std.proofs.lemmas.Bool.{cases_lt}
+use Rattle.std.specs.Option.{is_some}
+use Rattle.std.proofs.lemmas.Bool.{false≢true, cases_lt}
 use Rattle.std.proofs.lemmas.Nat.Bits.{bit_at-lt, bit_at-zero, bit_at_and, bit_at_not, bit_at_above}
 use Rattle.std.proofs.lemmas.Int.{ints}
 use Rattle.mk_model.specs.Vectors.{entry}
@@ -73,3 +74,7 @@ as_wide side row leads h =
 pub none_then : {A B : Type 0} (found : Option ℕ) → (A → B) → IfNone found A → IfNone found B
 none_then None f h = f h
 none_then (Some place) f h = tt
+
+pub from_none : {A : Type 0} (found : Option ℕ) → false ≡ is_some found → IfNone found A → A
+from_none None e h = h
+from_none (Some place) e h = absurd (false≢true e)

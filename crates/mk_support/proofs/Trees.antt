@@ -64,5 +64,5 @@ tree_more leads lead mask children new h room is_mask by_first gains = record {
         (mask, subst (Has new mask) last gains.there)
 
 -- no lead divides where none of the tree does
-pub none_divides : (leads : List (List ℤ)) (children : List Node) (y : List ℤ) → IsTree leads children → ((m p : ℕ) → Has children m p → p < length leads → IsRefused leads y p) → All (λ lead. ¬ (Divides lead y)) leads
-none_divides leads children y h refused place other l = let (m, s) = h.each place l in refused m place s l (get_or leads place other) (slice_get-get_or leads place other l)
+pub none_divides : (leads : List (List ℤ)) (children : List Node) (y : List ℤ) → IsTree leads children → ((m p : ℕ) → Has children m p → IsRefused leads y p) → All (λ lead. ¬ (Divides lead y)) leads
+none_divides leads children y h refused place other l = let (m, s) = h.each place l in refused m place s (get_or leads place other) (slice_get-get_or leads place other l)

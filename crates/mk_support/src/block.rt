@@ -49,27 +49,20 @@ impl Block {
         Ok(())
     }
 
-    /// The first place below `end` of one of its leads that divides the part of `r` on that side, which has that mask, and
-    /// none exactly where no lead does. All leads have as many columns as `r`.
-    pub(crate) fn find(
-        &self,
-        leads: &[HeldLead],
-        r: &Move,
-        side: Side,
-        part: u64,
-        end: u32,
-    ) -> Option<u32>
+    /// The place of one of its leads that divides the part of `r` on that side, which has that mask, and none exactly
+    /// where no lead does. All leads have as many columns as `r`.
+    pub(crate) fn find(&self, leads: &[HeldLead], r: &Move, side: Side, part: u64) -> Option<u32>
         requires columns { All (λ lead. length lead ≡ length r.now.entries) leads.now }
         requires placed { (m p : ℕ) → HoldsIn self.now m p → IsPlacedLead leads.now m p }
         requires part { IsMask (part_of side r.now.entries) part }
         ensures found { IfSome result (DividesAt leads.now (part_of side r.now.entries)) }
-        ensures none { IfNone result ((m p : ℕ) → HoldsIn self.now m p → p < end → IsRefused leads.now (part_of side r.now.entries) p) }
+        ensures none { IfNone result ((m p : ℕ) → HoldsIn self.now m p → IsRefused leads.now (part_of side r.now.entries) p) }
     {
         let places = self.places.as_slice();
         for (index, mask) in self.masks.iter().enumerate() {
             if *mask & !part == 0 {
                 let place = places[index];
-                if place < end && leads[place as usize].divides_within(r, side) {
+                if leads[place as usize].divides_within(r, side) {
                     return Some(place);
                 }
             }

@@ -1,4 +1,4 @@
-ghost use Rattle.std.specs.Prelude.{◌≡◌, ◌<◌, length, All, IfSome, IfNone, IfOk, OnOk, OnErr, ℕ};
+ghost use Rattle.std.specs.Prelude.{◌≡◌, length, All, IfSome, IfNone, IfOk, OnOk, OnErr, ℕ};
 ghost use Rattle.mk_move.specs.Sides.{part_of, DividesAt};
 ghost use Rattle.mk_move.specs.Masks.{IsMask};
 ghost use Rattle.mk_support.specs.Blocks.{IsPlacedLead, IsRefused};
@@ -34,40 +34,31 @@ impl Children {
         }
     }
 
-    /// The first place below `end` of one of its leads that divides the part of `r` on that side, which has that mask, and
-    /// none exactly where no lead does. All leads have as many columns as `r`.
-    pub(crate) fn find(
-        &self,
-        leads: &[HeldLead],
-        r: &Move,
-        side: Side,
-        part: u64,
-        end: u32,
-    ) -> Option<u32>
+    /// The place of one of its leads that divides the part of `r` on that side, which has that mask, and none exactly
+    /// where no lead does. All leads have as many columns as `r`.
+    pub(crate) fn find(&self, leads: &[HeldLead], r: &Move, side: Side, part: u64) -> Option<u32>
         requires columns { All (λ lead. length lead ≡ length r.now.entries) leads.now }
         requires by_first { AreByFirst self.now.by_first.items }
         requires placed { (m p : ℕ) → Has self.now.by_first.items m p → IsPlacedLead leads.now m p }
         requires part { IsMask (part_of side r.now.entries) part }
         ensures found { IfSome result (DividesAt leads.now (part_of side r.now.entries)) }
-        ensures none { IfNone result ((m p : ℕ) → Has self.now.by_first.items m p → p < end → IsRefused leads.now (part_of side r.now.entries) p) }
+        ensures none { IfNone result ((m p : ℕ) → Has self.now.by_first.items m p → IsRefused leads.now (part_of side r.now.entries) p) }
     {
         let children = self.by_first.as_slice();
         if children.is_empty() {
             return None;
         }
         // A lead whose mask has a bit that the part's lacks doesn't divide it.
-        let mut found = None;
         let mut left = part;
         while left != 0 {
             let (first, others) = first_bit(left);
-            let limit = found.unwrap_or(end);
-            let earlier = children[first as usize].find(leads, r, side, part, limit);
-            found = earlier.or(found);
+            let found = children[first as usize].find(leads, r, side, part);
+            if found.is_some() {
+                return found;
+            }
             left = others;
         }
-        let limit = found.unwrap_or(end);
-        let earlier = children[UNSET].find(leads, r, side, part, limit);
-        earlier.or(found)
+        children[UNSET].find(leads, r, side, part)
     }
 
     /// Puts in the lead with this mask and this place. It has the same leads where there is no memory.

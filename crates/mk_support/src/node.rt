@@ -20,37 +20,27 @@ pub(crate) enum Node {
 }
 
 impl Node {
-    /// The first place below `end` of one of its leads that divides the part of `r` on that side, which has that mask, and
-    /// none exactly where no lead does. All leads have as many columns as `r`.
-    pub(crate) fn find(
-        &self,
-        leads: &[HeldLead],
-        r: &Move,
-        side: Side,
-        part: u64,
-        end: u32,
-    ) -> Option<u32>
+    /// The place of one of its leads that divides the part of `r` on that side, which has that mask, and none exactly
+    /// where no lead does. All leads have as many columns as `r`.
+    pub(crate) fn find(&self, leads: &[HeldLead], r: &Move, side: Side, part: u64) -> Option<u32>
         requires columns { All (λ lead. length lead ≡ length r.now.entries) leads.now }
         requires split { AreSplit self.now }
         requires placed { ArePlaced leads.now self.now }
         requires part { IsMask (part_of side r.now.entries) part }
         ensures found { IfSome result (DividesAt leads.now (part_of side r.now.entries)) }
-        ensures none { IfNone result ((m p : ℕ) → Holds self.now m p → p < end → IsRefused leads.now (part_of side r.now.entries) p) }
+        ensures none { IfNone result ((m p : ℕ) → Holds self.now m p → IsRefused leads.now (part_of side r.now.entries) p) }
     {
         match self {
-            Node::Leaf(block) => block.find(leads, r, side, part, end),
+            Node::Leaf(block) => block.find(leads, r, side, part),
             Node::Fork(bit, with, without) => {
                 // A lead whose mask has a bit that the part's lacks doesn't divide it.
-                if bit_of(part, *bit) == 0 {
-                    return without.find(leads, r, side, part, end);
+                if bit_of(part, *bit) == 1 {
+                    let found = with.find(leads, r, side, part);
+                    if found.is_some() {
+                        return found;
+                    }
                 }
-                match with.find(leads, r, side, part, end) {
-                    None => without.find(leads, r, side, part, end),
-                    Some(place) => match without.find(leads, r, side, part, place) {
-                        None => Some(place),
-                        earlier => earlier,
-                    },
-                }
+                without.find(leads, r, side, part)
             }
         }
     }

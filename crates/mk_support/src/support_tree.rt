@@ -56,7 +56,6 @@ impl Finder for SupportTree {
     }
 
     fn find(&self, r: &Move, side: Side) -> Option<u32> {
-        self.children
-            .find(&self.leads, r, side, r.mask(side), self.count())
+        self.children.find(&self.leads, r, side, r.mask(side))
     }
 }

@@ -63,19 +63,15 @@ fn unit(column: usize) -> [Entry; 21]
 }
 
 #[test]
-fn the_first_lead_of_a_split_leaf_is_found(rt: HostRuntime) -> Result<(), Fail> {
+fn leads_of_a_split_leaf_are_found(rt: HostRuntime) -> Result<(), Fail> {
     let mut tree = SupportTree::new(rt.alloc());
-    for place in 0..20 {
-        put(&rt, &mut tree, &unit(19 - place))?;
+    for column in 0..20 {
+        put(&rt, &mut tree, &unit(column))?;
     }
-    for place in 0..20 {
-        let m = move_of(&rt, &unit(19 - place))?;
-        assert_eq!(rt; tree.find(&m, Side::Plus), Some(place as u32));
+    for column in 0..20 {
+        let m = move_of(&rt, &unit(column))?;
+        assert_eq!(rt; tree.find(&m, Side::Plus), Some(column as u32));
         assert_eq!(rt; tree.find(&m, Side::Minus), None);
     }
-    let mut row = [1; 21];
-    row[20] = -20;
-    let m = move_of(&rt, &row)?;
-    assert_eq!(rt; tree.find(&m, Side::Plus), Some(0));
     Ok(())
 }

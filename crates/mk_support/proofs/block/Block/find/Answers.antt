@@ -1,4 +1,4 @@
-use Rattle.std.proofs.Common.{◌<◌, ◌≡◌, rules, arith, sym, ap, length, get_or, List, ℕ, ℤ, All, ap}
+use Rattle.std.proofs.Common.{◌≡◌, rules, arith, sym, ap, length, get_or, List, ℕ, ℤ, All, ap}
 use borrow.Author.Count.{below_more}
 use Rattle.std.proofs.lemmas.Bool.{false≢true}
 use Rattle.std.proofs.lemmas.Option.{slice_get_within}
@@ -6,7 +6,7 @@ use Rattle.mk_move.specs.Sides.{part_of}
 use Rattle.mk_support.specs.Blocks.{HoldsIn, IsPlacedLead, IsRefused}
 use Rattle.mk_support.proofs.Searches.{as_wide, holds_at, read_at, refused_by_mask, within_by_mask, refused_itself}
 use Rattle.mk_support.proofs.block.Block.find.Goals as goal
-use Rattle.mk_support.proofs.block.Block.find.Goals.{In-loop-index, then-mask-part-eq0+else-place-end, else-mask-part-eq0, else-place-end-via-then-place-end+else-divides_within, else-place-end-via-else-place-end}
+use Rattle.mk_support.proofs.block.Block.find.Goals.{In-loop-index, then-mask-part-eq0+else-divides_within, else-mask-part-eq0}
 
 -- the mask of the loop, and its place
 abbrev mask : In-loop-index → ℕ
@@ -61,17 +61,11 @@ returns-then-divides_within-clause-found c =
 pub loop-index-preserved : goal.loop-index-preserved
 loop-index-preserved c =
     let w = (goal.at.loop-index-preserved c).In-loop-index in
-    below_more (λ k. get_or c.as_slice-places.result.now k 0 < c.args.end → IsRefused c.args.leads.now (part_of c.args.side c.args.r.now.entries) (get_or c.as_slice-places.result.now k 0)) c.loop-index.index c.loop-index.invariant
+    below_more (λ k. IsRefused c.args.leads.now (part_of c.args.side c.args.r.now.entries) (get_or c.as_slice-places.result.now k 0)) c.loop-index.index c.loop-index.invariant
     (elim c.if-mask-part-eq0.branch [
-      | then-mask-part-eq0+else-place-end v ↦
-          elim v.else-place-end.branch [
-            | else-place-end-via-then-place-end+else-divides_within u ↦
-                λ _.
-                refused_itself c.args.leads.now (part_of c.args.side c.args.r.now.entries) (place w) u.index-leads-place.result
-                (read_at c.args.leads.now (place w) u.index-leads-place.result (placed w) u.index-leads-place.is) (λ d. false≢true (u.if-divides_within.ensures.1 d))
-            | else-place-end-via-else-place-end u ↦ λ l. absurd (omega (arith, l, u.if-place-end.false))
-          ]
+      | then-mask-part-eq0+else-divides_within v ↦
+          refused_itself c.args.leads.now (part_of c.args.side c.args.r.now.entries) (place w) v.index-leads-place.result
+          (read_at c.args.leads.now (place w) v.index-leads-place.result (placed w) v.index-leads-place.is) (λ d. false≢true (v.if-divides_within.ensures.1 d))
       | else-mask-part-eq0 v ↦
-          λ _.
           refused_by_mask c.args.leads.now (part_of c.args.side c.args.r.now.entries) (mask w) (place w) c.args.part (c.type_inv.mask-items c.loop-index.index).fits c.ranges.part.fits (wide w) (placed w) c.requires.part v.if-mask-part-eq0.false
     ])

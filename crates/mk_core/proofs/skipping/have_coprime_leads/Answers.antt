@@ -10,7 +10,7 @@ use Rattle.mk_core.proofs.skipping.have_coprime_leads.Goals as goal
 pub returns-then-masks-i-eq0 : goal.returns-then-masks-i-eq0
 returns-then-masks-i-eq0 c =
     let disjoint = disjoint_by_masks c.args.basis.now c.lead_masks-masks.result.now c.args.i c.args.j c.lead_masks-masks.ensures.kept c.lead_masks-masks.ensures.masks
-        c.requires.first c.requires.second c.if-masks-i-eq0.true in
+    c.requires.first c.requires.second c.if-masks-i-eq0.true in
     ((λ _. disjoint), (λ _. search rules))
 
 pub returns : goal.returns

@@ -120,17 +120,21 @@ fn remainder_of(
     }
 }
 
-// The first of two workers, who has the pair of the two moves as its claim, settles it by what is left of its difference.
-pub(crate) fn place_first(
+// The worker settles its claim by what is left of its difference.
+pub(crate) fn place_claim(
     rt: &(impl Abort + AllocGlobal),
     ledger: &mut Ledger,
+    worker: u32,
 ) -> Result<Result<u32, PlaceFault>, Fail> {
-    assert_eq!(rt; ledger.workers(), 2);
-    assert_eq!(rt; ledger.claim_of(0), Some((0, 1)));
-    assert_eq!(rt; ledger.basis().len(), 2);
-    let mut remainder = remainder_of(rt, ledger.basis(), 0, 1)?;
+    assert!(rt; worker < ledger.workers());
+    let Some((i, j)) = ledger.claim_of(worker) else {
+        panic!(rt; "no claim");
+    };
+    let front = ledger.basis().len();
+    assert!(rt; i < j && j < front);
+    let mut remainder = remainder_of(rt, ledger.basis(), i, j)?;
     remainder.orient(ledger.basis().priority());
-    Ok(ledger.settle_place(0, 2, remainder))
+    Ok(ledger.settle_place(worker, front, remainder))
 }
 
 // Two workers on the twisted cubic, within a budget and a limit: the first claims the pair, which the other isn't given, and settles
@@ -159,7 +163,7 @@ fn a_ledger_answers_two_workers(rt: HostRuntime) -> Result<(), Fail> {
             j: 1,
         };
         assert_eq!(rt; answer_for(&rt, &mut ledger, 1), taken);
-        let placed = place_first(&rt, &mut ledger)?;
+        let placed = place_claim(&rt, &mut ledger, 0)?;
         assert_eq!(rt; placed.ok(), if limit == 2 { None } else { Some(2) });
         let full = matches!(ledger.first_halt(), Some(Halt::Full { i: 0, j: 1 }));
         assert_eq!(rt; full, limit == 2);

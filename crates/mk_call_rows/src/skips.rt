@@ -1,4 +1,4 @@
-use crate::completions::{ENTRIES, MOVES, answer_for, place_first};
+use crate::completions::{ENTRIES, MOVES, answer_for, place_claim};
 use crate::shown::{assert_moves, start_of};
 use mk_criteria::{chain_candidates, find_chain, is_chain};
 use mk_ledger::{ChainFault, Claim, Ledger};
@@ -59,6 +59,37 @@ fn third_moves_are_found(rt: HostRuntime) -> Result<(), Fail> {
     Ok(())
 }
 
+// The least third move through which the claim of the worker is settled.
+fn third_move_of(rt: &impl Abort, ledger: &Ledger, worker: u32) -> Option<u32> {
+    assert!(rt; worker < ledger.workers());
+    let Some((i, j)) = ledger.claim_of(worker) else {
+        panic!(rt; "no claim");
+    };
+    assert!(rt; i < j && j < ledger.basis().len());
+    find_chain(ledger.basis(), ledger, i, j)
+}
+
+// The first pair is settled through the third move once both of its pairs are settled by moves, and the last through the first
+// move once the others are.
+#[test]
+fn a_pair_is_settled_through_a_third_move(rt: HostRuntime) -> Result<(), Fail> {
+    for (first, second, last, k) in [(1, 2, 0, 2), (0, 1, 2, 0)] {
+        let mut ledger = three_workers(&rt)?;
+        for worker in 0..3 {
+            let answer = answer_for(&rt, &mut ledger, worker);
+            assert!(rt; matches!(answer, Claim::Claimed { .. }));
+        }
+        let placed = place_claim(&rt, &mut ledger, first)?;
+        assert!(rt; placed.is_ok());
+        let placed = place_claim(&rt, &mut ledger, second)?;
+        assert!(rt; placed.is_ok());
+        assert_eq!(rt; third_move_of(&rt, &ledger, last), Some(k));
+        assert_eq!(rt; chain_by(&rt, &mut ledger, last, k), Ok(()));
+        assert_eq!(rt; ledger.settled_count(), 3);
+    }
+    Ok(())
+}
+
 // The worker, whose claim has leads without a common column, settles it by that.
 fn settle_apart(rt: &impl Abort, ledger: &mut Ledger, worker: u32) -> Result<(), Fail> {
     assert!(rt; worker < ledger.workers());
@@ -79,7 +110,7 @@ fn a_pair_of_disjoint_leads_is_settled(rt: HostRuntime) -> Result<(), Fail> {
     let mut ledger = Ledger::new(rt.alloc(), start, 3, 65_536, 2)?;
     let first = Claim::Claimed { i: 0, j: 1 };
     assert_eq!(rt; answer_for(&rt, &mut ledger, 0), first);
-    let placed = place_first(&rt, &mut ledger)?;
+    let placed = place_claim(&rt, &mut ledger, 0)?;
     assert!(rt; matches!(placed, Ok(2)), "{placed:?}");
     let next = Claim::Claimed { i: 0, j: 2 };
     assert_eq!(rt; answer_for(&rt, &mut ledger, 1), next);

@@ -23,6 +23,9 @@ const STEEP_PAIR: &str =
 const STEEP_TAIL: &str =
     "2 4\n-604462909807314587353086 302231454903657293676543 0 1208925819614629174706172\n0 302231454903657293676543 -302231454903657293676543 -302231454903657293676543\n";
 
+const STEEP_WEIGHT: &str =
+    "3 4\n-226673591177742970257405 0 226673591177742970257405 -226673591177742970257405\n302231454903657293676540 151115727451828646838270 151115727451828646838270 -226673591177742970257405\n-151115727451828646838270 302231454903657293676540 -151115727451828646838270 151115727451828646838270\n";
+
 // A table, and a grading for which each row has product 0.
 #[derive(Debug, Drop)]
 struct Graded {
@@ -161,6 +164,12 @@ fn lattices_are_stopped(rt: HostRuntime) -> Result<(), Fail> {
         times: -1,
         right: -302231454903657293676543,
     };
+    let at_weight = OverflowAt {
+        column: 1,
+        left: -906694364710971881029620,
+        times: 1,
+        right: 453347182355485940514810,
+    };
     let rows = [
         (
             STEEP_PAIR,
@@ -175,6 +184,13 @@ fn lattices_are_stopped(rt: HostRuntime) -> Result<(), Fail> {
             OverflowPlace::Tail { index: 0 },
             Some(1),
             at_tail,
+        ),
+        (
+            STEEP_WEIGHT,
+            [1, 1, 9, 8].as_slice(),
+            OverflowPlace::Degree,
+            None,
+            at_weight,
         ),
     ];
     for (text, grade, place, by, at) in rows {

@@ -112,15 +112,15 @@ impl ThirdMoves {
         Ok(())
     }
 
-    /// The first listed place that serves as third move, or where a lead below the first place may divide that of the first
-    /// place, the least of all.
+    /// The first listed place that serves as third move. Where a lead below the first place may divide that of the first
+    /// place, or one behind the second place may serve, it is the least of all places.
     fn search(&self, ledger: &Ledger, i: u32, j: u32) -> Option<u32>
         requires ordered { i < j }
         requires within { j < length ledger.now.basis.moves }
         ensures { IfSome result (IsChain ledger.now.state.basis ledger.now.state.journal (pair_of i j)) }
     {
         match self.have_divisor.get(i as usize) {
-            Some(false) => self.search_listed(ledger, i, j),
+            Some(false) if ledger.settled_end(j) <= j => self.search_listed(ledger, i, j),
             _ => find_chain(ledger.basis(), ledger, i, j),
         }
     }

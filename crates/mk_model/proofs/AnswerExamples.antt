@@ -1,5 +1,5 @@
 -- The answers for one row of double_move columns, for one of eight, and for a row of zeros.
-use Rattle.std.proofs.Common.{◌≡◌, inl, inr, ℕ, List, [], ◌∷◌, length, ℤ, pos, arith, refl}
+use Rattle.std.proofs.Common.{◌≡◌, inl, inr, ℕ, List, [], ◌∷◌, length, None, ℤ, pos, arith, refl}
 use Rattle.std.proofs.lemmas.Int.{ints}
 use Rattle.std.proofs.lemmas.List.Elements.{All-nil, All-cons}
 use Rattle.mk_model.specs.Vectors.{zeros, combine, add, subtract, scale, negate, weight, positive_part, negative_part}
@@ -18,15 +18,15 @@ row_graded n row l e =
     graded_by_ones n (row ∷ []) (All-cons (λ row. length row ≡ n) row [] l (All-nil (λ row. length row ≡ n)))
     (All-cons (λ row. weight (ones n) row ≡ pos 0) row [] e (All-nil (λ row. weight (ones n) row ≡ pos 0)))
 
-pub of_two_columns : IsMinimalMarkovBasis double_lattice (double_move ∷ [])
+pub of_two_columns : IsMinimalMarkovBasis double_lattice None (double_move ∷ [])
 unfolding weight negate positive_part negative_part
 of_two_columns = the_answer_of_row 2 (double_move ∷ []) (ones 2) double_move double_move (row_graded 2 double_move refl refl) refl (inl refl) (inl (record { lt = tt }))
 
-pub negated : IsMinimalMarkovBasis (lattice_of 8 (eight_row ∷ []) (ones 8)) (eight_move ∷ [])
+pub negated : IsMinimalMarkovBasis (lattice_of 8 (eight_row ∷ []) (ones 8)) None (eight_move ∷ [])
 unfolding weight negate positive_part negative_part
 negated = the_answer_of_row 8 (eight_row ∷ []) (ones 8) eight_row eight_move (row_graded 8 eight_row refl refl) refl (inr refl) (inl (record { lt = tt }))
 
-pub of_zeros : IsMinimalMarkovBasis (lattice_of 3 ((zeros 3) ∷ []) (ones 3)) []
+pub of_zeros : IsMinimalMarkovBasis (lattice_of 3 ((zeros 3) ∷ []) (ones 3)) None []
 unfolding weight
 of_zeros = the_answer_of_no_row 3 ((zeros 3) ∷ []) (ones 3) (row_graded 3 (zeros 3) refl refl) refl
 

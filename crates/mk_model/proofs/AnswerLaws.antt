@@ -1,30 +1,31 @@
--- The members of an answer are the essential moves, and there is one answer.
-use Rattle.std.proofs.Common.{◌≡◌, ⊎_elim, ℕ, List, ℤ, Contains}
+-- The members of an answer are the essential moves up to its bound, and there is one answer.
+use Rattle.std.proofs.Common.{◌≡◌, ⊎_elim, ℕ, List, Option, ℤ, Contains}
 use Rattle.std.proofs.lemmas.List.Elements.{All-contains}
-use Rattle.mk_model.specs.Bases.{IsEssential, IsAnswer, ListsEssentialMoves}
+use Rattle.mk_model.specs.Bases.{IsEssentialUpTo, IsAnswer, ListsEssentialMoves}
 use Rattle.mk_model.specs.Orders.{ComesBefore}
 use Rattle.mk_model.proofs.Lists.{same_from_members}
 use Rattle.mk_model.proofs.OrderLaws.{ComesBefore-asymmetric}
-use Rattle.mk_model.specs.Lattices.{Lattice, lattice_of}
+use Rattle.mk_model.specs.Lattices.{Lattice}
 
--- an essential move stands in each answer
-pub answer_has_essential : {n : ℕ} {rows : List (List ℤ)} {w : List ℤ} {moves : List (List ℤ)} → IsAnswer (lattice_of n rows w) moves → (m : List ℤ) → IsEssential (lattice_of n rows w) m → Contains moves m
-answer_has_essential a m e = ⊎_elim (λ c. c) (λ j. absurd (e.not_joined j)) (a.complete m e.move)
+module _ {lattice : Lattice} {upto : Option ℕ} where
+  -- an essential move up to the bound stands in each answer
+  pub answer_has_essential : {moves : List (List ℤ)} → IsAnswer lattice upto moves → (m : List ℤ) → IsEssentialUpTo lattice upto m → Contains moves m
+  answer_has_essential a m e = ⊎_elim (λ c. c) (λ j. absurd (e.essential.not_joined j)) (a.complete m e.essential.move e.light)
 
-pub answer_members_essential : {n : ℕ} {rows : List (List ℤ)} {w : List ℤ} {moves : List (List ℤ)} → IsAnswer (lattice_of n rows w) moves → (m : List ℤ) → Contains moves m → IsEssential (lattice_of n rows w) m
-answer_members_essential {n} {rows} {w} {moves} a m c = All-contains (IsEssential (lattice_of n rows w)) moves m a.essential c
+  pub answer_members_essential : {moves : List (List ℤ)} → IsAnswer lattice upto moves → (m : List ℤ) → Contains moves m → IsEssentialUpTo lattice upto m
+  answer_members_essential {moves} a m c = All-contains (IsEssentialUpTo lattice upto) moves m a.essential c
 
-pub lists_essential : {lattice : Lattice} {moves : List (List ℤ)} → IsAnswer lattice moves → ListsEssentialMoves lattice moves
-lists_essential a = record {
-  ascending = a.ascending;
-  members = λ m. (answer_members_essential a m, answer_has_essential a m);
-}
+  pub lists_essential : {moves : List (List ℤ)} → IsAnswer lattice upto moves → ListsEssentialMoves lattice upto moves
+  lists_essential a = record {
+    ascending = a.ascending;
+    members = λ m. (answer_members_essential a m, answer_has_essential a m);
+  }
 
-pub one_list : {lattice : Lattice} {moves others : List (List ℤ)} → ListsEssentialMoves lattice moves → ListsEssentialMoves lattice others → others ≡ moves
-one_list {lattice} {moves} {others} a b =
-    same_from_members (ComesBefore lattice.columns lattice.grading) (ComesBefore-asymmetric lattice.columns lattice.grading) others moves b.ascending a.ascending
-    (λ z c. (a.members z).1 ((b.members z).0 c))
-    (λ z c. (b.members z).1 ((a.members z).0 c))
+  pub one_list : {moves others : List (List ℤ)} → ListsEssentialMoves lattice upto moves → ListsEssentialMoves lattice upto others → others ≡ moves
+  one_list {moves} {others} a b =
+      same_from_members (ComesBefore lattice.columns lattice.grading) (ComesBefore-asymmetric lattice.columns lattice.grading) others moves b.ascending a.ascending
+      (λ z c. (a.members z).1 ((b.members z).0 c))
+      (λ z c. (b.members z).1 ((a.members z).0 c))
 
-pub one_answer : {lattice : Lattice} {moves others : List (List ℤ)} → IsAnswer lattice moves → IsAnswer lattice others → others ≡ moves
-one_answer a b = one_list (lists_essential a) (lists_essential b)
+  pub one_answer : {moves others : List (List ℤ)} → IsAnswer lattice upto moves → IsAnswer lattice upto others → others ≡ moves
+  one_answer a b = one_list (lists_essential a) (lists_essential b)

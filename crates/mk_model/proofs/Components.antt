@@ -1,5 +1,5 @@
 -- Components of fibres and the reduced basis: which of its moves are essential.
-use Rattle.std.proofs.Common.{◌≡◌, ◌⊎◌, inl, inr, ℕ, List, ℤ, ◌≤ℤ◌, ◌<ℤ◌, All, AllPairs, Contains, arith, ap, sym, subst, ⊎_elim}
+use Rattle.std.proofs.Common.{◌≡◌, ◌⊎◌, inl, inr, ℕ, List, Option, None, ℤ, ◌≤ℤ◌, ◌<ℤ◌, All, AllPairs, Contains, arith, ap, sym, subst, ⊎_elim}
 use Rattle.std.proofs.lemmas.Int.{ints}
 use Rattle.std.proofs.lemmas.List.Elements.{All-weaker}
 use Rattle.mk_model.specs.Vectors.{weight}
@@ -7,7 +7,7 @@ use Rattle.mk_model.specs.Lattices.{lattice_of, HasGrading}
 use Rattle.mk_model.specs.Orders.{IsBelow, standard, lead, tail, ComesBefore}
 use Rattle.mk_model.specs.Walks.{Joined, Members}
 use Rattle.mk_model.specs.Walks.Walk.{stay, step}
-use Rattle.mk_model.specs.Bases.{IsMove, IsEssential, IsAnswer}
+use Rattle.mk_model.specs.Bases.{IsMove, IsEssential, IsEssentialUpTo, IsUpTo, IsAnswer}
 use Rattle.mk_model.specs.ReducedBases.{IsLeast, IsReducedBasis, LighterMoves, IsLeastOfComponent}
 use Rattle.mk_model.proofs.VectorAlgebra.{parts}
 use Rattle.mk_model.proofs.WalkLaws.{walk_from, walk_weaker, walk_stays}
@@ -68,19 +68,22 @@ module _ {n : ℕ} {rows : List (List ℤ)} {w : List ℤ} (g : HasGrading (latt
           (sym (walk_stays (λ v (h, l). omega (arith, ints, l, lightest v h)) (lighter_by_members (weight w (lead m)) j))) b;
     }
 
-    -- The members whose lead is the least of its component, ascending, are the answer: from the lead of each other
-    -- member lighter moves lead to a vector below it.
-    pub answer_from_components : {chosen : List (List ℤ)} → AllPairs (ComesBefore n w) chosen → All (λ m. Contains moves m × IsLeastOfComponent (lattice_of n rows w) (lead m)) chosen →
-        ((m : List ℤ) → Contains moves m → Contains chosen m ⊎ ((x : List ℤ) × IsBelow (standard n) x (lead m) × Joined n (LighterMoves (lattice_of n rows w) (weight w (lead m))) (lead m) x)) →
-        IsAnswer (lattice_of n rows w) chosen
-    answer_from_components {chosen} ascending first others =
+    -- The members up to a bound whose lead is the least of its component, ascending, are the answer: from the lead of
+    -- each other member up to it lighter moves lead to a vector below it.
+    pub answer_from_components : {upto : Option ℕ} {chosen : List (List ℤ)} → AllPairs (ComesBefore n w) chosen →
+        All (λ m. Contains moves m × IsUpTo upto (weight w (lead m)) × IsLeastOfComponent (lattice_of n rows w) (lead m)) chosen →
+        ((m : List ℤ) → Contains moves m → IsUpTo upto (weight w (lead m)) →
+        Contains chosen m ⊎ ((x : List ℤ) × IsBelow (standard n) x (lead m) × Joined n (LighterMoves (lattice_of n rows w) (weight w (lead m))) (lead m) x)) →
+        IsAnswer (lattice_of n rows w) upto chosen
+    answer_from_components {upto} {chosen} ascending first others =
         answer_from_reduced g basis ascending
-        (All-weaker (λ m. Contains moves m × IsLeastOfComponent (lattice_of n rows w) (lead m)) (IsEssential (lattice_of n rows w)) (λ m (c, l). member_is_essential m c l) chosen first)
-        (λ m c. ⊎_elim inl (λ (x, b, j). inr (joined_from_lighter g (member_move g basis m c) x j b)) (others m c))
+        (All-weaker (λ m. Contains moves m × IsUpTo upto (weight w (lead m)) × IsLeastOfComponent (lattice_of n rows w) (lead m)) (IsEssentialUpTo (lattice_of n rows w) upto)
+        (λ m (c, h, l). record { essential = member_is_essential m c l; light = h }) chosen first)
+        (λ m c h. ⊎_elim inl (λ (x, b, j). inr (joined_from_lighter g (member_move g basis m c) x j b)) (others m c h))
 
     -- moves of one weight are all essential
-    pub answer_of_one_weight : (bound : ℤ) → ((m : List ℤ) → Contains moves m → weight w (lead m) ≡ bound) → IsAnswer (lattice_of n rows w) moves
+    pub answer_of_one_weight : (bound : ℤ) → ((m : List ℤ) → Contains moves m → weight w (lead m) ≡ bound) → IsAnswer (lattice_of n rows w) None moves
     answer_of_one_weight bound same =
         answer_from_components basis.ascending
-        (All-from_contains (λ m. Contains moves m × IsLeastOfComponent (lattice_of n rows w) (lead m)) moves
-        (λ m c. (c, lightest_is_least m c (λ v h. omega (arith, ints, same m c, same v h))))) (λ m c. inl c)
+        (All-from_contains (λ m. Contains moves m × IsUpTo None (weight w (lead m)) × IsLeastOfComponent (lattice_of n rows w) (lead m)) moves
+        (λ m c. (c, tt, lightest_is_least m c (λ v h. omega (arith, ints, same m c, same v h))))) (λ m c h. inl c)

@@ -20,6 +20,7 @@ pub mod FreeColumns
 pub mod ReductionExamples
 pub mod Fibres
 pub mod MoveRanks
+pub mod WeightBounds
 pub mod MarkovLaws
 pub mod MinimalLaws
 pub mod StarLaws

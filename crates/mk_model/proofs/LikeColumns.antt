@@ -1,5 +1,5 @@
 -- The answer of three like columns.
-use Rattle.std.proofs.Common.{◌≡◌, List, [], ◌∷◌, length, ℤ, pos, ◌<ℤ◌, All, Contains, arith, refl}
+use Rattle.std.proofs.Common.{◌≡◌, List, [], ◌∷◌, length, None, ℤ, pos, ◌<ℤ◌, All, Contains, arith, refl}
 use Rattle.std.proofs.lemmas.Int.{ints}
 use Rattle.std.proofs.lemmas.List.Elements.{All-contains}
 use Rattle.mk_model.specs.Vectors.{combine, add, subtract, negate, scale, positive_part, negative_part, weight, IsPoint}
@@ -66,5 +66,5 @@ weights : (m : List ℤ) → Contains like_moves m → weight (ones 3) (lead m) 
 unfolding weight positive_part
 weights m h = All-contains (λ m. weight (ones 3) (lead m) ≡ pos 1) like_moves m (all_two (λ m. weight (ones 3) (lead m) ≡ pos 1) like_first like_second refl refl) h
 
-pub of_like_columns : IsMinimalMarkovBasis like_lattice like_moves
+pub of_like_columns : IsMinimalMarkovBasis like_lattice None like_moves
 of_like_columns = the_answer graded (answer_of_one_weight graded like_basis (pos 1) weights)

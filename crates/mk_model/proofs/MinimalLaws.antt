@@ -1,5 +1,5 @@
 -- Each essential move is needed: without it its ends stay apart.
-use Rattle.std.proofs.Common.{◌≡◌, ◌⊎◌, inl, inr, ℕ, zero, suc, ◌+◌, ◌≤◌, ◌<◌, List, [], length, take, drop, get_or, ℤ, ◌<ℤ◌, Contains, arith, ap, sym, ◌∙◌, subst, ⊎_elim}
+use Rattle.std.proofs.Common.{◌≡◌, ◌⊎◌, inl, inr, ℕ, zero, suc, ◌+◌, ◌≤◌, ◌<◌, List, [], length, take, drop, get_or, Option, ℤ, ◌<ℤ◌, Contains, arith, ap, sym, ◌∙◌, subst, ⊎_elim}
 use Rattle.std.proofs.lemmas.Int.{ints}
 use Rattle.std.proofs.lemmas.List.{get_or_default, get_or-take, get_or-drop, length-take, length-drop}
 use Rattle.std.proofs.lemmas.List.Elements.{Contains-append_cases}
@@ -8,9 +8,9 @@ use Rattle.mk_model.specs.Lattices.{lattice_of, InLattice, HasGrading}
 use Rattle.mk_model.specs.Orders.{lead, tail, ComesBefore}
 use Rattle.mk_model.specs.Walks.{Joined}
 use Rattle.mk_model.specs.Walks.Walk.{stay, step}
-use Rattle.mk_model.specs.Bases.{IsMove, MovesBefore, IsEssential, IsAnswer, IsMinimal, AreApart, without}
+use Rattle.mk_model.specs.Bases.{IsMove, MovesBefore, IsEssential, IsEssentialUpTo, IsAnswer, IsUpTo, IsMinimal, AreApart, without}
 use Rattle.mk_model.proofs.WalkLaws.{walk_append, walk_back, walk_weaker, one_step, walk_from}
-use Rattle.mk_model.proofs.MoveLaws.{IsMove-lead, IsMove-tail, IsMove-ends}
+use Rattle.mk_model.proofs.MoveLaws.{IsMove-lead, IsMove-tail, IsMove-ends, IsMove-same_weight}
 use Rattle.mk_model.proofs.Fibres.{step_weight, ends_of_step}
 use Rattle.mk_model.proofs.MarkovLaws.{tail_from_lead}
 
@@ -47,7 +47,7 @@ module _ {n : ℕ} {rows : List (List ℤ)} {w : List ℤ} (g : HasGrading (latt
       go (inl o) s (inr (a, d, f, k, i, j)) = inr (a, d, f, k, step p (v, o, s) i, j)
       go (inr e) s t = inr (past (at_ends (subst (λ u. (z ≡ add x u) ⊎ (z ≡ subtract x u)) e s)) t)
 
-  module _ {moves : List (List ℤ)} (answer : IsAnswer (lattice_of n rows w) moves) (k : ℕ) (inside : k < length moves) where
+  module _ {upto : Option ℕ} {moves : List (List ℤ)} (answer : IsAnswer (lattice_of n rows w) upto moves) (k : ℕ) (inside : k < length moves) where
     abbrev at : ℕ → List ℤ
     at i = get_or moves i []
 
@@ -55,8 +55,11 @@ module _ {n : ℕ} {rows : List (List ℤ)} {w : List ℤ} (g : HasGrading (latt
     abbrev OthersBelow : ℕ → List ℤ → Type 0
     OthersBelow j v = (i : ℕ) × (i < j) × (i ≡ k → ⊥) × (v ≡ at i)
 
+    up_to_at : (i : ℕ) → i < length moves → IsEssentialUpTo (lattice_of n rows w) upto (at i)
+    up_to_at i l = answer.essential i [] l
+
     essential_at : (i : ℕ) → i < length moves → IsEssential (lattice_of n rows w) (at i)
-    essential_at i l = answer.essential i [] l
+    essential_at i l = (up_to_at i l).essential
 
     before_at : (i j : ℕ) → i < j → j < length moves → MovesBefore (lattice_of n rows w) (at j) (at i)
     before_at i j l h = ((essential_at i (omega arith)).move, answer.ascending i j [] l h)
@@ -138,15 +141,16 @@ module _ {n : ℕ} {rows : List (List ℤ)} {w : List ℤ} (g : HasGrading (latt
             let h : suc k + i < length moves = omega (arith, length-drop (suc k) moves) in
             (suc k + i, h, (λ d. omega arith), sym e ∙ get_or-drop (suc k) moves i v ∙ get_or_default moves (suc k + i) v [] h)
 
-    pub ends_apart : AreApart n rows (without k moves) (lead (at k)) (tail (at k))
+    pub ends_apart : AreApart (lattice_of n rows w) upto (without k moves) (lead (at k)) (tail (at k))
     ends_apart =
         let b = (essential_at k inside).move in
+        let light = (up_to_at k inside).light in
         record {
-          from = IsMove-lead g b;
-          to = IsMove-tail g b;
+          from = record { point = IsMove-lead g b; light = light };
+          to = record { point = IsMove-tail g b; light = subst (IsUpTo upto) (IsMove-same_weight g b) light };
           same_fibre = IsMove-ends g b;
           not_joined = λ j. stays_apart (length moves) (omega arith) (walk_weaker others_without (λ v p. p) j);
         }
 
-  pub minimal_from_answer : {moves : List (List ℤ)} → IsAnswer (lattice_of n rows w) moves → IsMinimal n rows moves
-  minimal_from_answer {moves} answer k l = (lead (get_or moves k []), tail (get_or moves k []), ends_apart answer k l)
+  pub minimal_from_answer : {upto : Option ℕ} {moves : List (List ℤ)} → IsAnswer (lattice_of n rows w) upto moves → IsMinimal (lattice_of n rows w) upto moves
+  minimal_from_answer {moves = moves} answer k l = (lead (get_or moves k []), tail (get_or moves k []), ends_apart answer k l)

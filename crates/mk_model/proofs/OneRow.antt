@@ -1,20 +1,18 @@
 -- The answer for a lattice of no row, or of the multiples of one vector.
-use Rattle.std.proofs.Common.{◌≡◌, ◌⊎◌, inl, inr, ℕ, zero, suc, List, [], ◌∷◌, ℤ, pos, neg_ℤ, ◌*ℤ◌, All, Contains, arith, ap, sym, ◌∙◌, subst, not}
+use Rattle.std.proofs.Common.{◌≡◌, ◌⊎◌, inl, inr, ℕ, zero, suc, List, [], ◌∷◌, None, ℤ, pos, neg_ℤ, ◌*ℤ◌, All, Contains, arith, ap, sym, ◌∙◌, subst, not}
 use Rattle.std.proofs.lemmas.List.Elements.{All-nil, All-cons, All-head, All-filter, All-contains_itself}
-use Rattle.mk_model.specs.Vectors.{entry, add, zeros, subtract, negate, scale, weight, IsPoint}
+use Rattle.mk_model.specs.Vectors.{entry, zeros, negate, scale, weight}
 use Rattle.mk_model.specs.Lattices.{lattice_of, combination, InLattice, HasGrading, is_zero, nonzero_rows}
 use Rattle.mk_model.specs.Orders.{standard, IsOriented, lead, tail, ComesBefore}
 use Rattle.mk_model.specs.Walks.{Joined}
-use Rattle.mk_model.specs.Walks.Walk.{stay}
-use Rattle.mk_model.specs.Bases.{IsMove, MovesBefore, IsEssential, IsAnswer, IsMarkov, IsMinimal, IsMinimalMarkovBasis}
+use Rattle.mk_model.specs.Bases.{IsMove, MovesBefore, IsEssential, IsEssentialUpTo, IsAnswer, IsMinimalMarkovBasis}
 use Rattle.mk_model.proofs.Integers.{product_more}
-use Rattle.mk_model.proofs.VectorAlgebra.{parts, scale-one, scale-negate, negate-negate, positive_part-scale, weight-scale, entry-zeros, add_difference, add-zeros}
+use Rattle.mk_model.proofs.VectorAlgebra.{parts, scale-one, scale-negate, negate-negate, positive_part-scale, weight-scale, entry-zeros}
 use Rattle.mk_model.proofs.OrderLaws.{factor_is_positive, IsOriented-not_zero, IsOriented-lead_not_tail, ComesBefore-asymmetric, ComesBefore-irreflexive}
 use Rattle.mk_model.proofs.WalkLaws.{walk_stays, walk_along}
 use Rattle.mk_model.proofs.LatticeLaws.{InLattice-row, InLattice-negate, combination_of_no_row, combination_of_one_row}
-use Rattle.mk_model.proofs.MoveLaws.{IsMove-columns, IsMove-lead, IsMove-tail, IsMove-ends, IsMove-lead_weight}
-use Rattle.mk_model.proofs.Lists.{Contains-none, Contains-here}
-use Rattle.mk_model.proofs.AnswerLaws.{lists_essential, one_list}
+use Rattle.mk_model.proofs.MoveLaws.{IsMove-columns, IsMove-lead, IsMove-tail, IsMove-lead_weight}
+use Rattle.mk_model.proofs.TheAnswer.{the_answer}
 
 -- ---- every vector of the lattice is a multiple of the move m
 module _ (n : ℕ) (rows : List (List ℤ)) (w m : List ℤ) (g : HasGrading (lattice_of n rows w)) (move : IsMove n rows m)
@@ -52,43 +50,19 @@ module _ (n : ℕ) (rows : List (List ℤ)) (w m : List ℤ) (g : HasGrading (la
       go (suc j, e) = inr (walk_along m (move, before_multiple j v e) (pos (suc (suc j))) (lead v) (tail v) (IsMove-lead g a) (IsMove-tail g a)
           (omega (arith, IsMove-columns g move)) (parts v ∙ e))
 
-  answer_of_generator : IsAnswer (lattice_of n rows w) (m ∷ [])
+  answer_of_generator : IsAnswer (lattice_of n rows w) None (m ∷ [])
   answer_of_generator = record {
     ascending = λ i j d h l. absurd (omega arith);
-    essential = All-cons (IsEssential (lattice_of n rows w)) m [] essential_generator (All-nil (IsEssential (lattice_of n rows w)));
-    complete = member_or_joined;
+    essential = All-cons (IsEssentialUpTo (lattice_of n rows w) None) m [] (record { essential = essential_generator; light = tt }) (All-nil (IsEssentialUpTo (lattice_of n rows w) None));
+    complete = λ v a light. member_or_joined v a;
   }
 
-  markov_of_generator : IsMarkov n rows (m ∷ [])
-  markov_of_generator = record {
-    in_lattice = All-cons (InLattice n rows) m [] move.in_lattice (All-nil (InLattice n rows));
-    joins = λ x y p q h. let (k, e) = multiples (subtract x y) h in walk_along m (Contains-here m []) k x y p q (omega (arith, IsMove-columns g move)) e;
-  }
-
-  minimal_generator : IsMinimal n rows (m ∷ [])
-  minimal_generator zero l = (
-    lead m,
-    tail m,
-    record {
-      from = IsMove-lead g move;
-      to = IsMove-tail g move;
-      same_fibre = IsMove-ends g move;
-      not_joined = λ j. IsOriented-lead_not_tail (standard n) m move.oriented (walk_stays Contains-none j);
-    },
-  )
-  minimal_generator (suc k) l = absurd (omega arith)
-
-  pub the_answer_of_generator : IsMinimalMarkovBasis (lattice_of n rows w) (m ∷ [])
-  the_answer_of_generator = record {
-    answer = answer_of_generator;
-    only = λ others a. one_list (lists_essential answer_of_generator) a;
-    markov = markov_of_generator;
-    minimal = minimal_generator;
-  }
+  pub the_answer_of_generator : IsMinimalMarkovBasis (lattice_of n rows w) None (m ∷ [])
+  the_answer_of_generator = the_answer g answer_of_generator
 
 -- ---- one row that is not zero
 pub the_answer_of_row : (n : ℕ) (rows : List (List ℤ)) (w row m : List ℤ) → HasGrading (lattice_of n rows w) → nonzero_rows rows ≡ row ∷ [] →
-    (m ≡ row) ⊎ (m ≡ negate row) → IsOriented (standard n) m → IsMinimalMarkovBasis (lattice_of n rows w) (m ∷ [])
+    (m ≡ row) ⊎ (m ≡ negate row) → IsOriented (standard n) m → IsMinimalMarkovBasis (lattice_of n rows w) None (m ∷ [])
 the_answer_of_row n rows w row m g e s o = the_answer_of_generator n rows w m g (record { in_lattice = inside s; oriented = o }) (λ x (f, d). all s x f d)
   where
     row_stands : Contains rows row
@@ -109,16 +83,8 @@ the_answer_of_row n rows w row m g e s o = the_answer_of_generator n rows w m g 
         (neg_ℤ k, c ∙ h ∙ ap (scale k) turned ∙ scale-negate k m)
 
 -- ---- no row that is not zero
-pub the_answer_of_no_row : (n : ℕ) (rows : List (List ℤ)) (w : List ℤ) → HasGrading (lattice_of n rows w) → nonzero_rows rows ≡ [] → IsMinimalMarkovBasis (lattice_of n rows w) []
-the_answer_of_no_row n rows w g e = record {
-  answer = answer;
-  only = λ others a. one_list (lists_essential answer) a;
-  markov = record {
-    in_lattice = All-nil (InLattice n rows);
-    joins = λ x y p q h. rw (same_points x y p q h) (stay q);
-  };
-  minimal = λ k l. absurd (omega arith);
-}
+pub the_answer_of_no_row : (n : ℕ) (rows : List (List ℤ)) (w : List ℤ) → HasGrading (lattice_of n rows w) → nonzero_rows rows ≡ [] → IsMinimalMarkovBasis (lattice_of n rows w) None []
+the_answer_of_no_row n rows w g e = the_answer g answer
   where
     only_zero : (x : List ℤ) → InLattice n rows x → x ≡ zeros n
     only_zero x (f, d) = d ∙ combination_of_no_row n f rows g.rows_columns e
@@ -126,13 +92,9 @@ the_answer_of_no_row n rows w g e = record {
     no_move : (m : List ℤ) → IsMove n rows m → ⊥
     no_move m a = IsOriented-not_zero (standard n) m (λ c. ap (λ v. entry v c) (only_zero m a.in_lattice) ∙ entry-zeros n c) a.oriented
 
-    answer : IsAnswer (lattice_of n rows w) []
+    answer : IsAnswer (lattice_of n rows w) None []
     answer = record {
       ascending = λ i j d h l. absurd (omega arith);
-      essential = All-nil (IsEssential (lattice_of n rows w));
-      complete = λ m a. absurd (no_move m a);
+      essential = All-nil (IsEssentialUpTo (lattice_of n rows w) None);
+      complete = λ m a light. absurd (no_move m a);
     }
-
-    same_points : (x y : List ℤ) → IsPoint n x → IsPoint n y → InLattice n rows (subtract x y) → x ≡ y
-    same_points x y p q h =
-        sym (add_difference x y (p.columns ∙ sym q.columns)) ∙ ap (add y) (only_zero (subtract x y) h) ∙ add-zeros y n (omega (arith, q.columns))

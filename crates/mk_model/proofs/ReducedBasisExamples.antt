@@ -53,4 +53,4 @@ unfolding weight
 components = all_two (IsLeastOfComponent cubic_lattice) cubic_inner cubic_outer (alone 0 1 1 0 refl) (alone 1 0 0 1 refl)
 
 pub star : IsStarMove cubic_lattice cubic_third
-star = essential_is_star cubic_graded (answer_members_essential of_twisted_cubic.answer cubic_third third_member)
+star = essential_is_star cubic_graded (answer_members_essential of_twisted_cubic.answer cubic_third third_member).essential

@@ -1,5 +1,5 @@
 -- The reduced basis: its moves, that there is one, that the essential moves stand in it, and that it joins every fibre.
-use Rattle.std.proofs.Common.{◌≡◌, ◌⊎◌, inl, inr, ℕ, ◌<◌, List, ℤ, ◌<ℤ◌, All, AllPairs, Contains, arith, ap, refl, sym, ◌∙◌, subst, ⊎_elim}
+use Rattle.std.proofs.Common.{◌≡◌, ◌⊎◌, inl, inr, ℕ, ◌<◌, List, Option, ℤ, ◌<ℤ◌, All, AllPairs, Contains, arith, ap, refl, sym, ◌∙◌, subst, ⊎_elim}
 use Rattle.std.proofs.lemmas.Int.{ints}
 use Rattle.std.proofs.lemmas.List.Elements.{All-contains, All-weaker}
 use borrow.Author.Differences.{up}
@@ -8,7 +8,7 @@ use Rattle.mk_model.specs.Lattices.{lattice_of, InLattice, HasGrading}
 use Rattle.mk_model.specs.Orders.{IsBelow, standard, lead, tail, ComesBefore}
 use Rattle.mk_model.specs.Walks.{Joined, Members}
 use Rattle.mk_model.specs.Walks.Walk.{stay, step}
-use Rattle.mk_model.specs.Bases.{IsAnswer, MovesBefore, IsMove, IsEssential, IsMarkov}
+use Rattle.mk_model.specs.Bases.{IsAnswer, MovesBefore, IsMove, IsEssential, IsEssentialUpTo, IsUpTo, IsMarkov}
 use Rattle.mk_model.specs.Reductions.{Divides}
 use Rattle.mk_model.specs.ReducedBases.{IsLeast, IsReducedMove, IsReducedBasis}
 use Rattle.mk_model.proofs.Lists.{same_from_members, member_or_none}
@@ -199,11 +199,11 @@ module _ {n : ℕ} {rows : List (List ℤ)} {w : List ℤ} (g : HasGrading (latt
             ⊎_elim (λ l. inr (by_lighter m c d l)) (by_same_lead m c)
             (divisor_cases g (lead v) (lead m) (IsMove-lead g a) (IsMove-lead g (member_move m c)) d)
 
-    -- The members that are essential, ascending, are the answer, if moves before each of the others join its ends.
-    pub answer_from_reduced : {chosen : List (List ℤ)} → AllPairs (ComesBefore n w) chosen → All (IsEssential (lattice_of n rows w)) chosen →
-        ((m : List ℤ) → Contains moves m → Contains chosen m ⊎ Joined n (MovesBefore (lattice_of n rows w) m) (lead m) (tail m)) → IsAnswer (lattice_of n rows w) chosen
+    -- The members up to a bound that are essential, ascending, are the answer, if moves before each of the others join its ends.
+    pub answer_from_reduced : {upto : Option ℕ} {chosen : List (List ℤ)} → AllPairs (ComesBefore n w) chosen → All (IsEssentialUpTo (lattice_of n rows w) upto) chosen →
+        ((m : List ℤ) → Contains moves m → IsUpTo upto (weight w (lead m)) → Contains chosen m ⊎ Joined n (MovesBefore (lattice_of n rows w) m) (lead m) (tail m)) → IsAnswer (lattice_of n rows w) upto chosen
     answer_from_reduced ascending essential others = record {
       ascending = ascending;
       essential = essential;
-      complete = λ v a. ⊎_elim (others v) inr (member_or_joined v a);
+      complete = λ v a light. ⊎_elim (λ c. others v c light) inr (member_or_joined v a);
     }

@@ -1,13 +1,13 @@
 -- The reduced basis and the answer of the curve of weights 1, 2, 3: one move of the reduced basis isn't essential.
-use Rattle.std.proofs.Common.{◌≡◌, ◌⊎◌, inl, inr, ℕ, zero, suc, ◌<◌, List, [], ◌∷◌, length, ℤ, pos, negsuc, ◌+ℤ◌, ◌-ℤ◌, ◌*ℤ◌, ◌≤ℤ◌, ◌<ℤ◌, All, AllPairs, Contains, arith, ap, refl, sym, ◌∙◌, subst, ⊎_elim}
+use Rattle.std.proofs.Common.{◌≡◌, ◌⊎◌, inl, inr, ℕ, zero, suc, ◌<◌, List, [], ◌∷◌, length, None, Some, ℤ, pos, negsuc, ◌+ℤ◌, ◌-ℤ◌, ◌*ℤ◌, ◌≤ℤ◌, ◌<ℤ◌, All, AllPairs, Contains, arith, ap, refl, sym, ◌∙◌, subst, ⊎_elim}
 use Rattle.std.proofs.lemmas.Int.{ints}
-use Rattle.std.proofs.lemmas.List.Elements.{All-contains}
+use Rattle.std.proofs.lemmas.List.Elements.{All-contains, All-nil, All-cons}
 use Rattle.mk_model.specs.Vectors.{entry, combine, add, subtract, negate, scale, positive_part, negative_part, weight, IsPoint}
 use Rattle.mk_model.specs.Lattices.{combination, InLattice, HasGrading}
 use Rattle.mk_model.specs.Walks.{Joined}
 use Rattle.mk_model.specs.Walks.Walk.{stay, step}
 use Rattle.mk_model.specs.Orders.{IsBelow, standard, lead, ComesBefore}
-use Rattle.mk_model.specs.Bases.{IsMove, IsEssential, IsMinimalMarkovBasis}
+use Rattle.mk_model.specs.Bases.{IsMove, IsEssential, IsUpTo, IsMinimalMarkovBasis}
 use Rattle.mk_model.specs.Reductions.{IsIrreducible}
 use Rattle.mk_model.specs.ReducedBases.{IsReducedMove, IsReducedBasis, IsLeastOfComponent, LighterMoves}
 use Rattle.mk_model.specs.Saturation.{divides}
@@ -181,14 +181,46 @@ ascending = ascends-true 3 curve_weights curve_rows refl
 abbrev StepsDown : List ℤ → Type 0
 StepsDown m = (x : List ℤ) × IsBelow (standard 3) x (lead m) × Joined 3 (LighterMoves curve_lattice (weight curve_weights (lead m))) (lead m) x
 
-each : (m : List ℤ) → Contains curve_basis_moves m → Contains curve_rows m ⊎ StepsDown m
-each m h =
+each : (m : List ℤ) → Contains curve_basis_moves m → IsUpTo None (weight curve_weights (lead m)) → Contains curve_rows m ⊎ StepsDown m
+each m h light =
     ⊎_elim (λ e. inl (subst (Contains curve_rows) e (0, omega arith, refl))) (λ k. ⊎_elim (λ e. inl (subst (Contains curve_rows) e (1, omega arith, refl)))
     (λ i. ⊎_elim (λ e. inr (subst StepsDown e (below_third, third_below, third_leads_down))) (λ j. absurd (Contains-none m j)) (Contains-cases curve_third [] m i))
     (Contains-cases curve_second (curve_third ∷ []) m k)) (Contains-cases curve_first (curve_second ∷ curve_third ∷ []) m h)
 
-pub of_small_curve : IsMinimalMarkovBasis curve_lattice curve_rows
+pub of_small_curve : IsMinimalMarkovBasis curve_lattice None curve_rows
 of_small_curve =
     the_answer curve_graded (answer_from_components curve_graded curve_basis ascending
-    (all_two (λ m. Contains curve_basis_moves m × IsLeastOfComponent curve_lattice (lead m)) curve_first curve_second
-    ((0, omega arith, refl), first_least) ((1, omega arith, refl), second_least)) each)
+    (all_two (λ m. Contains curve_basis_moves m × IsUpTo None (weight curve_weights (lead m)) × IsLeastOfComponent curve_lattice (lead m)) curve_first curve_second
+    ((0, omega arith, refl), tt, first_least) ((1, omega arith, refl), tt, second_least)) each)
+
+-- ---- the answers up to a weight
+-- each move but the first weighs at least 3
+first_or_heavy : (m : List ℤ) → Contains curve_basis_moves m → (curve_first ≡ m) ⊎ (pos 3 ≤ℤ weight curve_weights (lead m))
+unfolding weight positive_part
+first_or_heavy m h =
+    ⊎_elim inl (λ k. inr (⊎_elim (weighs curve_second (omega (arith, ints))) (λ i. ⊎_elim (weighs curve_third (omega (arith, ints))) (λ j. absurd (Contains-none m j)) (Contains-cases curve_third [] m i))
+    (Contains-cases curve_second (curve_third ∷ []) m k))) (Contains-cases curve_first (curve_second ∷ curve_third ∷ []) m h)
+  where
+    weighs : (v : List ℤ) → pos 3 ≤ℤ weight curve_weights (lead v) → v ≡ m → pos 3 ≤ℤ weight curve_weights (lead m)
+    weighs v k e = omega (arith, ints, k, ap (λ u. weight curve_weights (lead u)) e)
+
+up_to_two_or_down : (m : List ℤ) → Contains curve_basis_moves m → IsUpTo (Some 2) (weight curve_weights (lead m)) → Contains (curve_first ∷ []) m ⊎ StepsDown m
+up_to_two_or_down m h light = ⊎_elim (λ e. inl (subst (Contains (curve_first ∷ [])) e (0, omega arith, refl))) (λ k. absurd (omega (arith, ints, k, light))) (first_or_heavy m h)
+
+pub up_to_two : IsMinimalMarkovBasis curve_lattice (Some 2) (curve_first ∷ [])
+unfolding weight positive_part
+up_to_two =
+    the_answer curve_graded (answer_from_components curve_graded curve_basis (λ i j d h l. absurd (omega arith))
+    (All-cons (λ m. Contains curve_basis_moves m × IsUpTo (Some 2) (weight curve_weights (lead m)) × IsLeastOfComponent curve_lattice (lead m)) curve_first []
+    ((0, omega arith, refl), omega (arith, ints), first_least)
+    (All-nil (λ m. Contains curve_basis_moves m × IsUpTo (Some 2) (weight curve_weights (lead m)) × IsLeastOfComponent curve_lattice (lead m)))) up_to_two_or_down)
+
+first_weighs : weight curve_weights (lead curve_first) ≡ pos 2
+unfolding weight positive_part
+first_weighs = refl
+
+pub up_to_one : IsMinimalMarkovBasis curve_lattice (Some 1) []
+up_to_one =
+    the_answer curve_graded (answer_from_components curve_graded curve_basis (λ i j d h l. absurd (omega arith))
+    (All-nil (λ m. Contains curve_basis_moves m × IsUpTo (Some 1) (weight curve_weights (lead m)) × IsLeastOfComponent curve_lattice (lead m)))
+    (λ m h light. absurd (omega (arith, ints, light, All-contains IsAtLeastTwo curve_basis_moves m heavy h, first_weighs))))

@@ -1,5 +1,5 @@
 -- The answer of the twisted cubic.
-use Rattle.std.proofs.Common.{◌≡◌, ◌⊎◌, inl, inr, List, [], ◌∷◌, length, ℤ, pos, negsuc, ◌+ℤ◌, ◌-ℤ◌, ◌*ℤ◌, ◌≤ℤ◌, ◌<ℤ◌, All, Contains, arith, refl}
+use Rattle.std.proofs.Common.{◌≡◌, ◌⊎◌, inl, inr, List, [], ◌∷◌, length, None, ℤ, pos, negsuc, ◌+ℤ◌, ◌-ℤ◌, ◌*ℤ◌, ◌≤ℤ◌, ◌<ℤ◌, All, Contains, arith, refl}
 use Rattle.std.proofs.lemmas.Int.{ints}
 use Rattle.std.proofs.lemmas.List.Elements.{All-contains}
 use Rattle.mk_model.specs.Vectors.{combine, add, subtract, negate, scale, positive_part, negative_part, weight, IsPoint}
@@ -87,5 +87,5 @@ pub cubic_weights : (m : List ℤ) → Contains cubic_moves m → weight (ones 4
 unfolding weight positive_part
 cubic_weights m h = All-contains (λ m. weight (ones 4) (lead m) ≡ pos 2) cubic_moves m (all_three (λ m. weight (ones 4) (lead m) ≡ pos 2) cubic_second cubic_third cubic_first refl refl refl) h
 
-pub of_twisted_cubic : IsMinimalMarkovBasis cubic_lattice cubic_moves
+pub of_twisted_cubic : IsMinimalMarkovBasis cubic_lattice None cubic_moves
 of_twisted_cubic = the_answer cubic_graded (answer_of_one_weight cubic_graded cubic_basis (pos 2) cubic_weights)

@@ -1,12 +1,12 @@
 -- Small walks, and vectors between which there is none.
-use Rattle.std.proofs.Common.{◌≡◌, ◌⊎◌, inl, inr, ℕ, zero, suc, List, [], ◌∷◌, map, ℤ, pos, negsuc, ◌≤ℤ◌, arith, refl, sym, subst, ⊎_elim}
+use Rattle.std.proofs.Common.{◌≡◌, ◌⊎◌, inl, inr, ℕ, zero, suc, List, [], ◌∷◌, map, None, ℤ, pos, negsuc, ◌≤ℤ◌, arith, refl, sym, subst, ⊎_elim}
 use Rattle.std.proofs.lemmas.Int.{ints}
 use Rattle.mk_model.specs.Vectors.{entry, combine, add, subtract, scale, IsPoint}
 use Rattle.mk_model.specs.Lattices.{combination, InLattice}
 use Rattle.mk_model.specs.Walks.{IsStep, Walk, Joined, Members}
 use Rattle.mk_model.specs.Walks.Walk.{stay, step}
 use Rattle.mk_model.specs.Bases.{IsMarkov, without, AreApart}
-use Rattle.mk_model.specs.Worked.{unit_move, cubic_top, cubic_bottom, cubic_rows, cubic_outer, cubic_inner}
+use Rattle.mk_model.specs.Worked.{unit_move, unit_lattice, cubic_top, cubic_bottom, cubic_rows, cubic_outer, cubic_inner}
 use Rattle.mk_model.proofs.WalkLaws.{walk_from, walk_stays}
 use Rattle.mk_model.proofs.Lists.{Contains-none, Contains-cases}
 
@@ -27,11 +27,11 @@ joined =
     step (point_of_two 2 0) (unit_move, (0, omega arith, refl), inr refl)
     (step (point_of_two 1 1) (unit_move, (0, omega arith, refl), inr refl) (stay (point_of_two 0 2)))
 
-pub apart : AreApart 2 (unit_move ∷ []) (without 0 (unit_move ∷ [])) (pos 1 ∷ pos 0 ∷ []) (pos 0 ∷ pos 1 ∷ [])
+pub apart : AreApart unit_lattice None (without 0 (unit_move ∷ [])) (pos 1 ∷ pos 0 ∷ []) (pos 0 ∷ pos 1 ∷ [])
 unfolding combination subtract add combine scale
 apart = record {
-  from = point_of_two 1 0;
-  to = point_of_two 0 1;
+  from = record { point = point_of_two 1 0; light = tt };
+  to = record { point = point_of_two 0 1; light = tt };
   same_fibre = ((λ i. pos 1), refl);
   not_joined = λ j. let e : (pos 1 ∷ pos 0 ∷ []) ≡ (pos 0 ∷ pos 1 ∷ []) = walk_stays Contains-none j in cc;
 }

@@ -103,7 +103,7 @@ pub fn grading_fault_examples()
 /// the twisted cubic don't join `(1 0 0 1)` and `(0 1 1 0)`, so they are not Markov.
 pub fn walk_examples()
     ensures joined { Joined 2 (Members (unit_move ∷ [])) (pos 2 ∷ pos 0 ∷ []) (pos 0 ∷ pos 2 ∷ []) }
-    ensures apart { AreApart 2 (unit_move ∷ []) (without 0 (unit_move ∷ []))
+    ensures apart { AreApart unit_lattice None (without 0 (unit_move ∷ []))
         (pos 1 ∷ pos 0 ∷ []) (pos 0 ∷ pos 1 ∷ []) }
     ensures not_joined { ¬ (Joined 4 (Members cubic_rows) cubic_outer cubic_inner) }
     ensures not_markov { ¬ (IsMarkov 4 cubic_rows cubic_rows) }
@@ -122,19 +122,22 @@ pub fn order_examples()
 {}
 
 /// The answers of the twisted cubic, of three like columns, and of the curve of weights 1, 2, 3,
-/// of which one move of the reduced basis isn't essential; for the rows `(2 -2)`, of which
-/// `(4 -4)` isn't, and `(-1 1 1 -1 1 -1 -1 1)`; and for a row of zeros.
+/// of which one move of the reduced basis isn't essential; of that curve up to the weights 2 and 1;
+/// for the rows `(2 -2)`, of which `(4 -4)` isn't, and `(-1 1 1 -1 1 -1 -1 1)`; and for a row of
+/// zeros.
 pub fn answer_examples()
-    ensures of_twisted_cubic { IsMinimalMarkovBasis cubic_lattice (cubic_second ∷ cubic_third ∷ cubic_first ∷ []) }
-    ensures of_like_columns { IsMinimalMarkovBasis like_lattice (like_first ∷ like_second ∷ []) }
-    ensures of_small_curve { IsMinimalMarkovBasis curve_lattice (curve_first ∷ curve_second ∷ []) }
+    ensures of_twisted_cubic { IsMinimalMarkovBasis cubic_lattice None (cubic_second ∷ cubic_third ∷ cubic_first ∷ []) }
+    ensures of_like_columns { IsMinimalMarkovBasis like_lattice None (like_first ∷ like_second ∷ []) }
+    ensures of_small_curve { IsMinimalMarkovBasis curve_lattice None (curve_first ∷ curve_second ∷ []) }
+    ensures up_to_two { IsMinimalMarkovBasis curve_lattice (Some 2) (curve_first ∷ []) }
+    ensures up_to_one { IsMinimalMarkovBasis curve_lattice (Some 1) [] }
     ensures reduced { IsReducedMove 3 curve_rows curve_third }
     ensures not_essential { ¬ (IsEssential curve_lattice curve_third) }
-    ensures of_two_columns { IsMinimalMarkovBasis double_lattice (double_move ∷ []) }
+    ensures of_two_columns { IsMinimalMarkovBasis double_lattice None (double_move ∷ []) }
     ensures earlier { MovesBefore double_lattice fourfold_move double_move }
     ensures multiple { ¬ (IsEssential double_lattice fourfold_move) }
-    ensures negated { IsMinimalMarkovBasis (lattice_of 8 (eight_row ∷ []) (ones 8)) (eight_move ∷ []) }
-    ensures of_zeros { IsMinimalMarkovBasis (lattice_of 3 (zeros 3 ∷ []) (ones 3)) [] }
+    ensures negated { IsMinimalMarkovBasis (lattice_of 8 (eight_row ∷ []) (ones 8)) None (eight_move ∷ []) }
+    ensures of_zeros { IsMinimalMarkovBasis (lattice_of 3 (zeros 3 ∷ []) (ones 3)) None [] }
 {}
 
 /// The reduced bases of the twisted cubic and of the curve of weights 1, 2, 3; and of the fibre

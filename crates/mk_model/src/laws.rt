@@ -1,14 +1,14 @@
 //! The laws of the definitions. Each is the contract of a function that takes nothing and gives
 //! nothing.
 
-ghost use Rattle.std.specs.Prelude.{◌≡◌, ◌⊎◌, ℕ, ℤ, List, [], ◌∷◌, ◌++◌, length, ◌≤◌, ◌<◌, Bool, false, IsTrue, All, AllPairs, Contains, pos, ◌≤ℤ◌, ◌<ℤ◌, ◌↔◌};
+ghost use Rattle.std.specs.Prelude.{◌≡◌, ◌⊎◌, ℕ, ℤ, List, [], ◌∷◌, ◌++◌, length, ◌≤◌, ◌<◌, Bool, false, IsTrue, All, AllPairs, Contains, Option, None, pos, ◌≤ℤ◌, ◌<ℤ◌, ◌↔◌};
 ghost use Rattle.mk_model.specs.Tables.{Grid, Limits, ReadsTable};
 ghost use Rattle.mk_model.specs.TableFaults.{Fault, HasFault};
 ghost use Rattle.mk_model.specs.Vectors.{negate, entry, zeros, add, subtract, negative_part, weight, IsPoint};
 ghost use Rattle.mk_model.specs.Lattices.{Lattice, HasGrading, nonzero_rows, InLattice};
 ghost use Rattle.mk_model.specs.Walks.{Joined, Members};
 ghost use Rattle.mk_model.specs.Orders.{IsBelow, standard, IsOriented, lead, ComesBefore};
-ghost use Rattle.mk_model.specs.Bases.{IsMinimalMarkovBasis, IsAnswer, ListsEssentialMoves, IsEssential, MovesBefore, IsMarkov, IsMinimal};
+ghost use Rattle.mk_model.specs.Bases.{IsMinimalMarkovBasis, IsAnswer, ListsEssentialMoves, IsEssential, MovesBefore, IsUpTo, IsMarkov, IsMarkovUpTo, IsMinimal};
 ghost use Rattle.mk_model.specs.Reductions.{lcm, Divides, Meet, Reduct, IsIrreducible};
 ghost use Rattle.mk_model.specs.Pairs.{AreOrientedMoves, JoinedBelow, EveryPairJoined, AreDisjoint};
 ghost use Rattle.mk_model.specs.FreeColumns.{is_left, freed_by_rows};
@@ -22,7 +22,7 @@ ghost use Rattle.mk_model.specs.Programs.{Stage, Drives};
 /// A lattice of zero rows has no move, and the answer has none.
 pub fn answer_without_rows()
     ensures { (lattice : Lattice) → HasGrading lattice →
-        nonzero_rows lattice.rows ≡ [] → IsMinimalMarkovBasis lattice [] }
+        nonzero_rows lattice.rows ≡ [] → IsMinimalMarkovBasis lattice None [] }
 {}
 
 /// The answer for a lattice of one nonzero row is that row or its negative, whichever is
@@ -30,7 +30,7 @@ pub fn answer_without_rows()
 pub fn answer_of_one_row()
     ensures { (lattice : Lattice) (row m : List ℤ) → HasGrading lattice →
         nonzero_rows lattice.rows ≡ row ∷ [] → (m ≡ row) ⊎ (m ≡ negate row) → IsOriented (standard lattice.columns) m →
-        IsMinimalMarkovBasis lattice (m ∷ []) }
+        IsMinimalMarkovBasis lattice None (m ∷ []) }
 {}
 
 /// Two joined vectors stay joined where the same nonnegative vector is added to both.
@@ -190,28 +190,37 @@ pub fn free_columns_leave()
         ConnectedUpTo lattice.columns lattice.rows (is_left (freed_by_rows priority moves left)) moves }
 {}
 
-/// The moves of an answer join all nonnegative vectors that differ by the lattice.
+/// Without a bound, to join the nonnegative vectors of weights up to it is to join all of them.
+pub fn markov_up_to_none_is_markov()
+    ensures { (lattice : Lattice) (moves : List (List ℤ)) →
+        (IsMarkovUpTo lattice None moves ↔ IsMarkov lattice.columns lattice.rows moves) }
+{}
+
+/// The moves of an answer join all nonnegative vectors of weights up to its bound that differ by the
+/// lattice.
 pub fn essential_is_markov()
-    ensures { (lattice : Lattice) (moves : List (List ℤ)) → HasGrading lattice →
-        IsAnswer lattice moves → IsMarkov lattice.columns lattice.rows moves }
+    ensures { (lattice : Lattice) (upto : Option ℕ) (moves : List (List ℤ)) → HasGrading lattice →
+        IsAnswer lattice upto moves → IsMarkovUpTo lattice upto moves }
 {}
 
-/// Each move of an answer is needed: without it two vectors that differ by the lattice stay
-/// apart.
+/// Each move of an answer is needed: without it two vectors of weights up to its bound that differ
+/// by the lattice stay apart.
 pub fn essential_is_minimal()
-    ensures { (lattice : Lattice) (moves : List (List ℤ)) → HasGrading lattice →
-        IsAnswer lattice moves → IsMinimal lattice.columns lattice.rows moves }
+    ensures { (lattice : Lattice) (upto : Option ℕ) (moves : List (List ℤ)) → HasGrading lattice →
+        IsAnswer lattice upto moves → IsMinimal lattice upto moves }
 {}
 
-/// A lattice with a grading has at most one list of exactly its essential moves, ascending.
+/// A lattice with a grading has at most one list of exactly its essential moves up to a bound,
+/// ascending.
 pub fn answer_is_unique()
-    ensures { (lattice : Lattice) (moves others : List (List ℤ)) →
-        ListsEssentialMoves lattice moves → ListsEssentialMoves lattice others → moves ≡ others }
+    ensures { (lattice : Lattice) (upto : Option ℕ) (moves others : List (List ℤ)) →
+        ListsEssentialMoves lattice upto moves → ListsEssentialMoves lattice upto others → moves ≡ others }
 {}
 
-/// The members of an answer are the essential moves, and it ascends.
+/// The members of an answer are the essential moves up to its bound, and it ascends.
 pub fn answer_has_the_essential_moves()
-    ensures { (lattice : Lattice) (moves : List (List ℤ)) → IsAnswer lattice moves → ListsEssentialMoves lattice moves }
+    ensures { (lattice : Lattice) (upto : Option ℕ) (moves : List (List ℤ)) →
+        IsAnswer lattice upto moves → ListsEssentialMoves lattice upto moves }
 {}
 
 /// A lattice and a grading have at most one reduced basis.
@@ -254,15 +263,17 @@ pub fn lighter_members_join()
         Joined lattice.columns (λ m. Contains basis m × (weight lattice.grading (lead m) <ℤ bound)) x y }
 {}
 
-/// The members of the reduced basis whose leads are the least of their components are the answer,
-/// where from the lead of each other member lighter moves lead to a vector below it.
+/// The members of the reduced basis up to a bound whose leads are the least of their components are
+/// the answer, where from the lead of each other member up to it lighter moves lead to a vector below
+/// it.
 pub fn answer_from_components()
-    ensures { (lattice : Lattice) (basis chosen : List (List ℤ)) → HasGrading lattice → IsReducedBasis lattice basis →
+    ensures { (lattice : Lattice) (upto : Option ℕ) (basis chosen : List (List ℤ)) → HasGrading lattice → IsReducedBasis lattice basis →
         AllPairs (ComesBefore lattice.columns lattice.grading) chosen →
-        All (λ m. Contains basis m × IsLeastOfComponent lattice (lead m)) chosen →
-        ((m : List ℤ) → Contains basis m → Contains chosen m ⊎ ((x : List ℤ) × IsBelow (standard lattice.columns) x (lead m)
+        All (λ m. Contains basis m × IsUpTo upto (weight lattice.grading (lead m)) × IsLeastOfComponent lattice (lead m)) chosen →
+        ((m : List ℤ) → Contains basis m → IsUpTo upto (weight lattice.grading (lead m)) →
+        Contains chosen m ⊎ ((x : List ℤ) × IsBelow (standard lattice.columns) x (lead m)
         × Joined lattice.columns (LighterMoves lattice (weight lattice.grading (lead m))) (lead m) x)) →
-        IsAnswer lattice chosen }
+        IsAnswer lattice upto chosen }
 {}
 
 /// The essential moves are the least vectors of the components of a fibre, each less the least

@@ -25,9 +25,9 @@ pub use laws::{
     each_text_is_a_table_or_has_a_fault, ended_is_joined, essential_is_markov,
     essential_is_minimal, essential_moves_are_stars, events_keep_legal, every_fibre_is_finite,
     free_columns_leave, irreducible_is_least, join_chain, join_translate, least_vector_is_unique,
-    lighter_members_join, move_order_is_strict_and_total, phase_is_legal, reached_is_legal,
-    reduced_basis_divides, reduced_basis_has_the_essential_moves, reduced_basis_is_markov,
-    reduced_basis_is_unique, replay_goes_on, turns_happen_by_events,
+    lighter_members_join, markov_up_to_none_is_markov, move_order_is_strict_and_total,
+    phase_is_legal, reached_is_legal, reduced_basis_divides, reduced_basis_has_the_essential_moves,
+    reduced_basis_is_markov, reduced_basis_is_unique, replay_goes_on, turns_happen_by_events,
 };
 pub use plain::{divides, is_below};
 use std::alloc::{AllocError, AllocFailed};

@@ -17,6 +17,8 @@ const CUBIC: &str = "2 4\n1 -2 1 0\n0 1 -2 1\n";
 
 const CURVE: &str = "2 3\n2 -1 0\n1 1 -1\n";
 
+const STEEPER_CURVE: &str = "2 3\n1 -2 1\n3 -1 -1\n";
+
 const STEEP_PAIR: &str =
     "2 3\n0 -604462909807314587353087 604462909807314587353087\n604462909807314587353087 -1208925819614629174706174 -604462909807314587353087\n";
 
@@ -103,7 +105,7 @@ fn lattices_are_solved(rt: HostRuntime) -> Result<(), Fail> {
             2,
         ),
         (
-            "2 3\n1 -2 1\n3 -1 -1\n",
+            STEEPER_CURVE,
             [3, 4, 5].as_slice(),
             100,
             "3 3\n-1 2 -1\n3 -1 -1\n2 1 -2\n",
@@ -129,6 +131,7 @@ fn lattices_are_solved(rt: HostRuntime) -> Result<(), Fail> {
             &lattice.table,
             &lattice.grading,
             budget,
+            None,
             &mut book,
         )?;
         assert_list(&rt, &solved, moves)?;
@@ -143,10 +146,43 @@ fn lattices_are_solved(rt: HostRuntime) -> Result<(), Fail> {
         for (place, weight) in weights.iter().enumerate() {
             assert_eq!(rt; basis.move_at(place as u32).weight(), *weight);
         }
-        let chosen = minimise(rt.alloc(), kept, basis.grading())?;
+        let chosen = minimise(rt.alloc(), kept, basis.grading(), None)?;
         assert_list(&rt, &chosen, moves)?;
     }
     Ok(())
+}
+
+// The essential moves up to a bound: from a reduced basis, and as the answer of a lattice.
+#[test]
+fn heavier_moves_are_left_out(rt: HostRuntime) -> Result<(), Fail> {
+    let lattice = lattice_for(&rt, CURVE, &[1, 2, 3])?;
+    let mut book = RunBook::new(rt.alloc());
+    solve_alone(
+        rt.alloc(),
+        &lattice.table,
+        &lattice.grading,
+        1000,
+        None,
+        &mut book,
+    )?;
+    let Some(kept) = book.reduced() else {
+        panic!(rt; "no reduced basis");
+    };
+    for (bound, moves) in [(2, "1 3\n2 -1 0\n"), (1, "0 3\n")] {
+        let chosen = minimise(rt.alloc(), kept, kept.basis().grading(), Some(bound))?;
+        assert_list(&rt, &chosen, moves)?;
+    }
+    let lattice = lattice_for(&rt, STEEPER_CURVE, &[3, 4, 5])?;
+    let mut book = RunBook::new(rt.alloc());
+    let solved = solve_alone(
+        rt.alloc(),
+        &lattice.table,
+        &lattice.grading,
+        20000000,
+        Some(9),
+        &mut book,
+    )?;
+    assert_list(&rt, &solved, "2 3\n-1 2 -1\n3 -1 -1\n")
 }
 
 // Where an entry leaves its range, or the budget is used up: the place, by which move, and the numbers.
@@ -201,6 +237,7 @@ fn lattices_are_stopped(rt: HostRuntime) -> Result<(), Fail> {
             &lattice.table,
             &lattice.grading,
             1000,
+            None,
             &mut book,
         );
         assert!(rt; matches!(outcome, Err(RunStop::Stopped)));
@@ -218,7 +255,14 @@ fn lattices_are_stopped(rt: HostRuntime) -> Result<(), Fail> {
 fn a_budget_of_no_pairs_is_used_up(rt: HostRuntime) -> Result<(), Fail> {
     let lattice = lattice_for(&rt, CUBIC, &[1, 1, 1, 1])?;
     let mut book = RunBook::new(rt.alloc());
-    let outcome = solve_alone(rt.alloc(), &lattice.table, &lattice.grading, 0, &mut book);
+    let outcome = solve_alone(
+        rt.alloc(),
+        &lattice.table,
+        &lattice.grading,
+        0,
+        None,
+        &mut book,
+    );
     assert!(rt; matches!(outcome, Err(RunStop::Stopped)));
     assert!(rt; matches!(book.stop(), Some(BookStop::Budget { settled: 0 })));
     Ok(())

@@ -1,14 +1,17 @@
 -- The chosen moves, one place of the list after another.
-use Rattle.std.proofs.Common.{◌≡◌, ◌⊎◌, inl, inr, ℕ, ◌+◌, ◌≤◌, ◌<◌, List, [], ◌∷◌, ◌++◌, length, take, get_or, ℤ, All, AllPairs, Contains, arith, sym, ◌∙◌, subst, ⊎_elim}
-use Rattle.std.proofs.lemmas.List.{get_or_default, get_or-take, length-take, take_more, take_all, get_or_append_left, get_or_push, length_push}
+use Rattle.std.proofs.Common.{◌≡◌, ◌⊎◌, inl, inr, ℕ, ◌+◌, ◌≤◌, ◌<◌, List, [], ◌∷◌, ◌++◌, length, take, get_or, Option, ℤ, All, AllPairs, Contains, arith, sym, ◌∙◌, subst, ⊎_elim}
+use Rattle.std.proofs.lemmas.Bool.{cases_lt}
+use Rattle.std.proofs.lemmas.List.{get_or_default, get_or-take, length-take, take_more, get_or_append_left, get_or_push, length_push}
 use Rattle.std.proofs.lemmas.List.Elements.{All-contains, All-nil, All-push, All-weaker, Contains-get_or, Contains-append_left, Contains-push, Contains-push_cases}
-use Rattle.mk_model.specs.Orders.{lead, ComesBefore}
+use Rattle.mk_model.specs.Orders.{IsBelow, standard, lead, ComesBefore}
 use Rattle.mk_model.specs.CoreStates.{move_at}
-use Rattle.mk_model.specs.Bases.{IsAnswer}
+use Rattle.mk_model.specs.Bases.{IsUpTo, IsAnswer}
 use Rattle.mk_model.specs.Lattices.{lattice_of, HasGrading}
-use Rattle.mk_model.specs.ReducedBases.{IsLeastOfComponent, IsReducedBasis}
+use Rattle.mk_model.specs.Vectors.{weight}
+use Rattle.mk_model.specs.ReducedBases.{LighterMoves, IsLeastOfComponent, IsReducedBasis}
+use Rattle.mk_model.specs.Walks.{Joined}
 use Rattle.mk_model.proofs.Components.{answer_from_components}
-use Rattle.mk_minimise.specs.Stages.{StepsLighter, AreChosen}
+use Rattle.mk_minimise.specs.Stages.{StepsLighter, AreChosen, AreChosenUpTo}
 
 AllPairs-push : (R : List ℤ → List ℤ → Type 0) (xs : List (List ℤ)) (y : List ℤ) → AllPairs R xs → ((x : List ℤ) → Contains xs x → R x y) → AllPairs R (xs ++ y ∷ [])
 AllPairs-push R xs y a last i j d l k = go (cases j (length xs) (omega (arith, k, length_push xs y)))
@@ -68,10 +71,42 @@ module _ (n : ℕ) (w : List ℤ) (moves : List (List ℤ)) where
       others = λ v c. ⊎_elim (so_far.others v) (λ e. inr (subst (StepsLighter n moves w) e steps)) (split v c);
     }
 
-  -- ---- all of them
-  pub chosen_are_answer : HasGrading (lattice_of n moves w) → IsReducedBasis (lattice_of n moves w) moves → (count : ℕ) → length moves ≤ count → (chosen : List (List ℤ)) → AreChosen n w moves count chosen → IsAnswer (lattice_of n moves w) chosen
-  chosen_are_answer g basis count l chosen all =
-      let whole : take count moves ≡ moves = take_all count moves l in
-      answer_from_components g basis all.ascending
-      (All-weaker (λ m. Contains (take count moves) m × IsLeastOfComponent (lattice_of n moves w) (lead m)) (λ m. Contains moves m × IsLeastOfComponent (lattice_of n moves w) (lead m)) (λ v (c, f). (subst (λ xs. Contains xs v) whole c, f)) chosen all.each)
-      (λ m c. ⊎_elim inl (λ s. inr (s.lower, s.below, s.joined)) (all.others m (subst (λ xs. Contains xs m) (sym whole) c)))
+  -- ---- all up to a bound
+  -- the place of a move in a front of the list
+  front_place : (count : ℕ) (m : List ℤ) → Contains (take count moves) m → (k : ℕ) × (k < count) × (k < length moves) × (move_at moves k ≡ m)
+  front_place count m (k, l, e) =
+      let small : k < count = omega (arith, l, length-take count moves) in
+      (k, small, omega (arith, l, length-take count moves), sym (get_or-take count moves k [] small) ∙ get_or_default (take count moves) k [] m l ∙ e)
+
+  in_front : (count : ℕ) (m : List ℤ) (k : ℕ) → k < count → k < length moves → move_at moves k ≡ m → Contains (take count moves) m
+  in_front count m k small l e =
+      subst (Contains (take count moves)) (get_or-take count moves k [] small ∙ e) (Contains-get_or (take count moves) k [] (omega (arith, small, l, length-take count moves)))
+
+  module _ (upto : Option ℕ) (chosen : List (List ℤ)) (all : AreChosenUpTo n w moves upto chosen) where
+    abbrev FirstOfFront : List ℤ → Type 0
+    FirstOfFront m = Contains (take all.count moves) m × IsLeastOfComponent (lattice_of n moves w) (lead m)
+
+    abbrev FirstUpTo : List ℤ → Type 0
+    FirstUpTo m = Contains moves m × IsUpTo upto (weight w (lead m)) × IsLeastOfComponent (lattice_of n moves w) (lead m)
+
+    abbrev StepsDown : List ℤ → Type 0
+    StepsDown m = (x : List ℤ) × IsBelow (standard n) x (lead m) × Joined n (LighterMoves (lattice_of n moves w) (weight w (lead m))) (lead m) x
+
+    first_up_to : (m : List ℤ) → FirstOfFront m → FirstUpTo m
+    first_up_to m (c, least) =
+        let (k, small, l, e) = front_place all.count m c in
+        (subst (Contains moves) e (Contains-get_or moves k [] l), subst (λ v. IsUpTo upto (weight w (lead v))) e (all.cut.light k small), least)
+
+    chosen_or_down : (m : List ℤ) → Contains moves m → IsUpTo upto (weight w (lead m)) → Contains chosen m ⊎ StepsDown m
+    chosen_or_down m (k, l, e) light = go (cases_lt k all.count)
+      where
+        same : move_at moves k ≡ m
+        same = get_or_default moves k [] m l ∙ e
+
+        go : (k < all.count) ⊎ (all.count ≤ k) → Contains chosen m ⊎ StepsDown m
+        go (inl s) = ⊎_elim inl (λ t. inr (t.lower, t.below, t.joined)) (all.of_front.others m (in_front all.count m k s l same))
+        go (inr s) = absurd (all.cut.heavy k s l (subst (λ v. IsUpTo upto (weight w (lead v))) (sym same) light))
+
+    pub chosen_are_answer : HasGrading (lattice_of n moves w) → IsReducedBasis (lattice_of n moves w) moves → IsAnswer (lattice_of n moves w) upto chosen
+    chosen_are_answer g basis =
+        answer_from_components g basis all.of_front.ascending (All-weaker FirstOfFront FirstUpTo first_up_to chosen all.of_front.each) chosen_or_down

@@ -13,3 +13,4 @@ pub mod LowerFronts
 pub mod ChosenMoves
 pub mod GatheredLinks
 pub mod StageSteps
+pub mod Faults

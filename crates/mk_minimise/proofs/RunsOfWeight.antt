@@ -1,15 +1,17 @@
 -- Runs of one weight in a reduced basis, whose weights rise.
-use Rattle.std.proofs.Common.{◌≡◌, ◌⊎◌, inl, inr, ℕ, ◌+◌, ◌≤◌, ◌<◌, [], length, slice_get, Some, ◌≤ℤ◌, ◌<ℤ◌, arith, ap, sym, ◌∙◌}
+use Rattle.std.proofs.Common.{◌≡◌, ◌⊎◌, inl, inr, ℕ, ◌+◌, ◌≤◌, ◌<◌, [], length, slice_get, Some, Option, ◌≤ℤ◌, ◌<ℤ◌, arith, ap, sym, ◌∙◌, subst}
 use Rattle.std.proofs.lemmas.Bool.{cases_lt}
 use Rattle.std.proofs.lemmas.Int.{ints, by_lt_z}
+use Rattle.mk_model.specs.Bases.{IsUpTo}
 use Rattle.mk_model.specs.CoreStates.{move_at}
 use Rattle.mk_model.specs.Orders.{lead, ComesBefore}
 use Rattle.mk_model.specs.Vectors.{weight}
+use Rattle.mk_model.proofs.WeightBounds.{IsUpTo-no_heavier}
 use Rattle.mk_move.specs.Moves.{Weighed, IsGraded}
 use Rattle.mk_move.specs.MoveLists.{BasisView, vectors_of}
 use Rattle.mk_inter.specs.Tails.{IsReducedList}
 use Rattle.mk_reduce.proofs.Beginnings.{vector_at, length-vectors_of}
-use Rattle.mk_minimise.specs.Stages.{weight_at, IsWeightCut, IsAsHeavy, IsWeightRun}
+use Rattle.mk_minimise.specs.Stages.{weight_at, IsWeightCut, IsAsHeavy, IsWeightRun, IsPlaceUpTo, IsBoundCut}
 
 -- the weight that a move has
 pub weight_is : (basis : BasisView) (k : ℕ) (m : Weighed) → slice_get basis.moves k ≡ Some m → IsGraded basis.grading m → m.weight ≡ weight_at basis k
@@ -69,3 +71,26 @@ module _ (basis : BasisView) (h : IsReducedList basis) where
 
       cut : IsWeightCut basis end
       cut i j l k m = omega (arith, ints, at_most i l (cases_lt i start), more (omega arith), weights_rise end j k m)
+
+  -- ---- the places up to a bound
+  module _ (upto : Option ℕ) where
+    abbrev pub AreUpTo : ℕ → Type 0
+    AreUpTo count = (k : ℕ) → k < count → IsUpTo upto (weight_at basis k)
+
+    -- a run at a place up to the bound is up to it
+    pub up_to_more : (start end : ℕ) → AreUpTo start → IsPlaceUpTo basis upto start → IsWeightRun basis start end → AreUpTo end
+    up_to_more start end before here run k l = go (cases_lt k start)
+      where
+        go : (k < start) ⊎ (start ≤ k) → IsUpTo upto (weight_at basis k)
+        go (inl s) = before k s
+        go (inr s) = subst (IsUpTo upto) (sym (run.same k s l)) here.light
+
+    -- where the next place isn't up to the bound, no place from it on is
+    pub up_to_ends : (count : ℕ) → AreUpTo count → (IsPlaceUpTo basis upto count → ⊥) → IsBoundCut basis.grading (vectors_of basis.moves) upto count
+    up_to_ends count before none = record {
+      light = before;
+      heavy = λ k h l light. none (record {
+        within = omega (arith, h, l, length-vectors_of basis.moves);
+        light = IsUpTo-no_heavier upto _ _ (weights_rise count k h (omega (arith, l, length-vectors_of basis.moves))) light;
+      });
+    }

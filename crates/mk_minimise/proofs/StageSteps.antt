@@ -1,11 +1,13 @@
 -- Steps of one weight: the next move of its run, and why the work on a pair stops.
-use Rattle.std.proofs.Common.{◌≡◌, ℕ, ◌+◌, ◌≤◌, ◌<◌, List, [], ◌∷◌, ◌++◌, length, drop, slice_get, Some, ℤ, All, Contains, arith, ap, sym, ◌∙◌, subst}
+use Rattle.std.proofs.Common.{◌≡◌, ℕ, ◌+◌, ◌≤◌, ◌<◌, List, [], ◌∷◌, ◌++◌, length, drop, slice_get, Some, Option, ℤ, All, Contains, arith, ap, sym, ◌∙◌, subst}
 use Rattle.std.proofs.lemmas.List.{map-append, length_push, take-append-drop}
 use Rattle.std.proofs.lemmas.List.Elements.{All-push}
 use Rattle.std.proofs.lemmas.Option.{slice_get_within}
-use Rattle.mk_model.specs.CoreStates.{move_at, pair_of, IsPairOf, stop_at}
+use Rattle.mk_model.specs.Bases.{IsUpTo}
+use Rattle.mk_model.specs.CoreStates.{Pair, move_at, pair_of, IsPairOf, stop_at}
 use Rattle.mk_model.specs.Orders.{lead}
 use Rattle.mk_model.specs.Overflows.{IsGenuineOverflow, IsPairOfWeight}
+use Rattle.mk_model.specs.Vectors.{weight}
 use Rattle.mk_model.proofs.Journals.{IsGenuineOverflow-append}
 use Rattle.mk_move.specs.Moves.{Weighed}
 use Rattle.mk_move.specs.MoveLists.{BasisView, BelongsTo, vector_of, vectors_of}
@@ -15,7 +17,7 @@ use Rattle.mk_minimise.specs.declared.minimal.MinimiseFault.{MinimiseFault}
 use Rattle.mk_minimise.specs.declared.minimal.MinimiseFault.TheVariants.{Memory, Overflow}
 use Rattle.mk_minimise.specs.declared.overlaps.Overlap.{Overlap}
 use Rattle.mk_minimise.specs.Minimal.{IsPairFault, IsMinimiseFault}
-use Rattle.mk_minimise.specs.Overlaps.{IsOverlap}
+use Rattle.mk_minimise.specs.Overlaps.{lcm_at, IsOverlap}
 use Rattle.mk_minimise.specs.Stages.{weight_at, IsFront, IsWeightRun, HasLead, TellsLeast, AreChosen}
 use Rattle.mk_minimise.proofs.ChosenMoves.{chosen_more, chosen_skip}
 use Rattle.mk_minimise.proofs.LowerFronts.{member_at, vectors_are, overlap_of_basis}
@@ -83,10 +85,11 @@ module _ (basis : BasisView) (h : IsReducedList basis) (lower : BasisView) (fron
         same = of_basis.weighs;
       })
 
-  pub pair_fault_is : (fault : MinimiseFault) → IsPairFault (vectors_of lower.moves) (pair_of pair.first pair.second) fault → IsMinimiseFault basis fault
-  pair_fault_is Memory f = tt
-  pair_fault_is (Overflow i j by operand at) (e, genuine) = (
+  pub pair_fault_is : (fault : MinimiseFault) → IsPairFault (vectors_of lower.moves) (pair_of pair.first pair.second) fault → (upto : Option ℕ) → IsUpTo upto (weight_at basis (length lower.moves)) → IsMinimiseFault basis upto fault
+  pair_fault_is Memory f upto light = tt
+  pair_fault_is (Overflow i j by operand at) (e, genuine) upto light = (
     of_weight i j e,
+    subst (λ (p : Pair). IsUpTo upto (weight basis.grading (lcm_at rows p.first p.second))) (sym e) (subst (IsUpTo upto) (sym of_basis.weighs) light),
     subst (λ (moves : List (List ℤ)). IsGenuineOverflow moves (stop_at (pair_of i j) by (vector_of operand) at.column at.left at.times at.right))
         (ap (λ xs. xs ++ drop (length lower.moves) rows) (vectors_are basis h lower front more) ∙ take-append-drop (length lower.moves) rows)
         (IsGenuineOverflow-append (vectors_of lower.moves) (drop (length lower.moves) rows) _ (subst (IsPairOf (vectors_of lower.moves)) (sym e) (record { ordered = o.ordered; within = o.within })) genuine),

@@ -1,6 +1,7 @@
 -- One weight after another: the lower moves, the links of the weight, and the moves that are chosen.
 -- (Sturmfels, chapter 5: minimal generators, degree by degree)
-use Rattle.std.specs.Prelude.{◌≡◌, ◌⊎◌, ℕ, ◌≤◌, ◌<◌, List, length, take, All, AllPairs, Contains, ℤ, ◌<ℤ◌}
+use Rattle.std.specs.Prelude.{◌≡◌, ◌⊎◌, ℕ, ◌≤◌, ◌<◌, List, length, take, All, AllPairs, Contains, Option, ℤ, ◌<ℤ◌}
+use Rattle.mk_model.specs.Bases.{IsUpTo}
 use Rattle.mk_model.specs.CoreStates.{move_at}
 use Rattle.mk_model.specs.Orders.{IsBelow, standard, lead, ComesBefore}
 use Rattle.mk_model.specs.ReducedBases.{LighterMoves, IsLeastOfComponent}
@@ -36,6 +37,16 @@ pub record IsWeightRun (basis : BasisView) (start end : ℕ) : Type 0 where
   pub same : (k : ℕ) → start ≤ k → k < end → weight_at basis k ≡ weight_at basis start
   pub cut : IsWeightCut basis end
 
+-- the place is one of the basis, with a lead of a weight up to the bound
+pub record IsPlaceUpTo (basis : BasisView) (upto : Option ℕ) (place : ℕ) : Type 0 where
+  pub within : place < length basis.moves
+  pub light : IsUpTo upto (weight_at basis place)
+
+-- the leads before the place, and no others, have weights up to the bound
+pub record IsBoundCut (w : List ℤ) (moves : List (List ℤ)) (upto : Option ℕ) (count : ℕ) : Type 0 where
+  pub light : (k : ℕ) → k < count → IsUpTo upto (weight w (lead (move_at moves k)))
+  pub heavy : (k : ℕ) → count ≤ k → k < length moves → ¬ (IsUpTo upto (weight w (lead (move_at moves k))))
+
 -- one of the moves has this lead
 pub record HasLead (moves : List (List ℤ)) (x : List ℤ) : Type 0 where
   pub move : List ℤ
@@ -58,3 +69,9 @@ pub record AreChosen (n : ℕ) (w : List ℤ) (moves : List (List ℤ)) (count :
   pub ascending : AllPairs (ComesBefore n w) chosen
   pub each : All (λ m. Contains (take count moves) m × IsLeastOfComponent (lattice_of n moves w) (lead m)) chosen
   pub others : (m : List ℤ) → Contains (take count moves) m → Contains chosen m ⊎ StepsLighter n moves w m
+
+-- the same, from the moves up to the bound
+pub record AreChosenUpTo (n : ℕ) (w : List ℤ) (moves : List (List ℤ)) (upto : Option ℕ) (chosen : List (List ℤ)) : Type 0 where
+  pub count : ℕ
+  pub cut : IsBoundCut w moves upto count
+  pub of_front : AreChosen n w moves count chosen

@@ -4,10 +4,10 @@ ghost use Rattle.mk_move.specs.Moves.{IsGraded};
 ghost use Rattle.mk_move.specs.MoveLists.{lattice_spanned, BelongsTo, vectors_of};
 ghost use Rattle.mk_inter.specs.Tails.{IsReducedList};
 ghost use Rattle.mk_minimise.specs.Minimal.{IsMinimiseFault};
-ghost use Rattle.mk_minimise.specs.Stages.{AreChosen};
+ghost use Rattle.mk_minimise.specs.Stages.{AreChosenUpTo};
 
 use crate::lower::Lower;
-use crate::stages::{choose, end_of_weight, links_of};
+use crate::stages::{choose, end_of_weight, is_up_to, links_of};
 use mk_inter::ReducedBasis;
 use mk_model::NoMemory;
 use mk_move::{Basis, Grading, Move, MoveList, OverflowAt};
@@ -96,39 +96,40 @@ impl MoveList for MinimalList {
     }
 }
 
-/// The essential moves of the lattice that a reduced basis spans, ascending by move order, each with the weight of its lead. The
-/// grading is the basis's.
+/// The essential moves of the lattice that a reduced basis spans, of weights up to a bound, ascending by move order, each with the
+/// weight of its lead. No bound is above every weight. The grading is the basis's. Heavier moves and pairs aren't worked on.
 /// (Sturmfels, chapter 5: minimal generators)
 pub fn minimise(
     alloc: Global,
     basis: &ReducedBasis,
     grading: &Grading,
+    upto: Option<u64>,
 ) -> Result<MinimalList, MinimiseFault>
     requires { grading.now ≡ basis.now.grading }
-    ensures answer { IfOk result (λ list. IsAnswer (lattice_spanned basis.now) (vectors_of list.moves)) }
+    ensures answer { IfOk result (λ list. IsAnswer (lattice_spanned basis.now) upto (vectors_of list.moves)) }
     ensures columns { IfOk result (λ list. list.columns ≡ length basis.now.grading) }
     ensures graded { IfOk result (λ list. All (IsGraded basis.now.grading) list.moves) }
-    ensures refused { IfErr result (IsMinimiseFault basis.now) }
+    ensures refused { IfErr result (IsMinimiseFault basis.now upto) }
 {
     let moves = basis.basis();
-    let chosen = chosen_of(alloc, moves)?;
+    let chosen = chosen_of(alloc, moves, upto)?;
     Ok(MinimalList {
         columns: grading.columns(),
         moves: chosen,
     })
 }
 
-/// The moves of a reduced basis whose lead is the least of its component, in their order.
-fn chosen_of(alloc: Global, basis: &Basis) -> Result<Vec<Move>, MinimiseFault>
+/// The moves of a reduced basis, of weights up to a bound, whose lead is the least of its component, in their order.
+fn chosen_of(alloc: Global, basis: &Basis, upto: Option<u64>) -> Result<Vec<Move>, MinimiseFault>
     requires { IsReducedList basis.now }
-    ensures chosen { IfOk result (λ chosen. AreChosen (length basis.now.grading) basis.now.grading (vectors_of basis.now.moves) (length basis.now.moves) (vectors_of chosen.items)) }
+    ensures chosen { IfOk result (λ chosen. AreChosenUpTo (length basis.now.grading) basis.now.grading (vectors_of basis.now.moves) upto (vectors_of chosen.items)) }
     ensures belongs { IfOk result (λ chosen. All (BelongsTo basis.now.priority basis.now.grading) chosen.items) }
     ensures few { IfOk result (λ chosen. length chosen.items ≤ length basis.now.moves) }
-    ensures refused { IfErr result (IsMinimiseFault basis.now) }
+    ensures refused { IfErr result (IsMinimiseFault basis.now upto) }
 {
     let mut lower = Lower::new(alloc, basis)?;
     let mut chosen = Vec::new(alloc);
-    while lower.len() < basis.len() {
+    while is_up_to(basis, lower.len(), upto) {
         let end = end_of_weight(basis, lower.len());
         let links = links_of(alloc, basis, &lower)?;
         choose(basis, lower.len(), end, &links, &mut chosen)?;

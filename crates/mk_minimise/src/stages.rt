@@ -1,4 +1,5 @@
-ghost use Rattle.std.specs.Prelude.{◌≡◌, ◌≤◌, ◌<◌, List, ℤ, length, All, IfOk, IfErr, OnOk, IsTrue, ◌↔◌, MatchResult};
+ghost use Rattle.std.specs.Prelude.{◌≡◌, ◌≤◌, ◌<◌, ℕ, List, Option, ℤ, length, All, IfOk, IfErr, OnOk, IsTrue, ◌↔◌, MatchResult};
+ghost use Rattle.mk_model.specs.Bases.{IsUpTo};
 ghost use Rattle.mk_model.specs.CoreStates.{pair_of, IsPairOf};
 ghost use Rattle.mk_model.specs.Orders.{lead};
 ghost use Rattle.mk_move.specs.MoveLists.{BelongsTo, vectors_of};
@@ -7,7 +8,7 @@ ghost use Rattle.mk_reduce.specs.Works.{IsRest};
 ghost use Rattle.mk_inter.specs.Tails.{IsReducedList};
 ghost use Rattle.mk_reduce.specs.Remainders.{IsRemainder};
 ghost use Rattle.mk_minimise.specs.Minimal.{IsMinimiseFault, IsPairFault};
-ghost use Rattle.mk_minimise.specs.Stages.{weight_at, IsFront, IsAsHeavy, IsWeightRun, HasLead, TellsLeast, AreChosen};
+ghost use Rattle.mk_minimise.specs.Stages.{weight_at, IsFront, IsAsHeavy, IsPlaceUpTo, IsWeightRun, HasLead, TellsLeast, AreChosen};
 
 use crate::links::{add_link, is_end};
 use crate::lower::Lower;
@@ -40,6 +41,23 @@ fn is_as_heavy(basis: &Basis, start: u32, place: u32) -> bool
     place < basis.len() && basis.move_at(place).weight() == basis.move_at(start).weight()
 }
 
+/// Is the place one of the basis, with a move of a weight up to the bound?
+pub(crate) fn is_up_to(basis: &Basis, place: u32, upto: Option<u64>) -> bool
+    ensures { IsTrue result ↔ IsPlaceUpTo basis.now upto place }
+{
+    place < basis.len() && is_weight_up_to(basis.move_at(place).weight(), upto)
+}
+
+/// Is the weight at most the bound, or is there no bound?
+fn is_weight_up_to(weight: i128, upto: Option<u64>) -> bool
+    ensures { IsTrue result ↔ IsUpTo upto weight }
+{
+    match upto {
+        Some(bound) => weight <= i128::from(bound),
+        None => true,
+    }
+}
+
 /// The links of the weight that follows the lower moves: from what is left of the differences of the pairs of lower moves
 /// that overlap with this weight.
 pub(crate) fn links_of(
@@ -52,7 +70,7 @@ pub(crate) fn links_of(
     requires within { length lower.now.moves < length basis.now.moves }
     ensures tells { IfOk result (λ links. TellsLeast (length basis.now.grading) basis.now.grading (vectors_of basis.now.moves) (weight_at basis.now (length lower.now.moves)) (vectors_of links.items)) }
     ensures belongs { IfOk result (λ links. All (BelongsTo basis.now.priority basis.now.grading) links.items) }
-    ensures refused { IfErr result (IsMinimiseFault basis.now) }
+    ensures refused { IfErr result (λ fault. (upto : Option ℕ) → IsUpTo upto (weight_at basis.now (length lower.now.moves)) → IsMinimiseFault basis.now upto fault) }
 {
     let weight = basis.move_at(lower.len()).weight();
     let mut links = Vec::new(alloc);

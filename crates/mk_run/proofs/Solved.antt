@@ -1,5 +1,5 @@
 -- What the book has where a project is read, solved and written, or not.
-use Rattle.std.proofs.Common.{◌≡◌, ◌⊎◌, ℤ, List, ℕ, take, Result, Ok, Err, ap, refl, inl, inr, sym, subst, ◌∙◌}
+use Rattle.std.proofs.Common.{◌≡◌, ◌⊎◌, ℤ, List, ℕ, take, None, Result, Ok, Err, ap, refl, inl, inr, sym, subst, ◌∙◌}
 use Rattle.mk_model.specs.ChosenGradings.{IsGradingOf}
 use Rattle.mk_model.specs.Tables.{Grid, lattice_of_table}
 use Rattle.mk_model.specs.Texts.{move_text}
@@ -23,7 +23,7 @@ use Rattle.mk_run.specs.declared.fault.RunFault.{RunFault}
 use Rattle.mk_run.proofs.Refusals.{begun_of_done, read_alone}
 
 -- a lattice that is solved leaves the book done
-pub solved_is_done : (lat : Grid) (w : List ℤ) (list : MoveListView) (book : Book) → IsGradingOf lat w → Solves (lattice_of_table lat w) default_budget (Ok list) book → IsDone book
+pub solved_is_done : (lat : Grid) (w : List ℤ) (list : MoveListView) (book : Book) → IsGradingOf lat w → Solves (lattice_of_table lat w) default_budget None (Ok list) book → IsDone book
 solved_is_done lat w list book positive h =
     ((h.input, h.ends.0), record { lat = lat; grading = w; positive = positive; fact = record { bases = h.bases; complete = h.ends.1.done } })
 
@@ -34,7 +34,7 @@ unread_book read.Failed book after e shown = inl (e, shown.failed refl)
 unread_book (read.Input fault) book after e shown = e
 
 -- a lattice that isn't solved, and the stop
-pub unsolved_book : (lat : Grid) (w : List ℤ) (fault : RunStop) (book : Book) (after : State) → IsGradingOf lat w → Solves (lattice_of_table lat w) default_budget (Err fault) book → HasBook book after (Err (stop_refused fault))
+pub unsolved_book : (lat : Grid) (w : List ℤ) (fault : RunStop) (book : Book) (after : State) → IsGradingOf lat w → Solves (lattice_of_table lat w) default_budget None (Err fault) book → HasBook book after (Err (stop_refused fault))
 unsolved_book lat w solve.Memory book after positive h =
     inr ((h.input, h.ends.0), record { lat = lat; grading = w; positive = positive; fact = record { bases = h.bases; under_way = h.ends.1 } })
 unsolved_book lat w solve.Stopped book after positive h =
@@ -54,14 +54,14 @@ unsolved_stops solve.Memory book stops = λ used other. absurd (let e = (stops u
 unsolved_stops solve.Stopped book stops = λ used other. (refl, (stops used other).1)
 
 -- the lattice was read, and solving it stopped, or memory ran out
-pub solving_refused : (project : List ℕ) (problem : Problem) (book : Book) (fault : RunStop) → Solves (lattice_of_table problem.lat problem.grading) default_budget (Err fault) book →
+pub solving_refused : (project : List ℕ) (problem : Problem) (book : Book) (fault : RunStop) → Solves (lattice_of_table problem.lat problem.grading) default_budget None (Err fault) book →
     (x y : Desk) → ReadsProject project (Ok problem) x y → Answers project book (Err (stop_refused fault)) x y
 solving_refused project problem book solve.Memory h x y r = read_alone project book x y r.1
 solving_refused project problem book solve.Stopped h x y r =
     ((h.ends.0, h.ends.1, record { lat = problem.lat; grading = problem.grading; problem = r.0; fact = record { bases = h.bases; cause = h.ends.2 } }), r.1)
 
 -- the lattice was read and solved, and its list is written, or not
-module _ (project : List ℕ) (problem : Problem) (list : MoveListView) (book : Book) (h : Solves (lattice_of_table problem.lat problem.grading) default_budget (Ok list) book) where
+module _ (project : List ℕ) (problem : Problem) (list : MoveListView) (book : Book) (h : Solves (lattice_of_table problem.lat problem.grading) default_budget None (Ok list) book) where
   text_is : text_of list ≡ move_text problem.lat.columns (vectors_of list.moves)
   text_is = ap (λ n. move_text n (vectors_of list.moves)) h.ends.1.columns
 

@@ -42,7 +42,7 @@ pub record WritesMarkovBasis (project : List ℕ) (before after : Desk) : Type 0
   pub grading : List ℤ
   pub problem : IsProblem (project_files before.files project) lat grading
   pub moves : List (List ℤ)
-  pub basis : IsMinimalMarkovBasis (lattice_of_table lat grading) moves
+  pub basis : IsMinimalMarkovBasis (lattice_of_table lat grading) None moves
   pub files : after.files ≡ insert before.files (mar_name project) (move_text lat.columns moves)
   pub out : after.out ≡ before.out
   pub errors : after.errors ≡ before.errors
@@ -175,7 +175,7 @@ pub record IsBegun (project : List ℕ) (book : Book) (before after : Desk) : Ty
   pub problem : IsProblem (project_files before.files project) lat grading
   pub complete : BookCompletes book (lattice_of_table lat grading)
   pub moves : List (List ℤ)
-  pub basis : IsMinimalMarkovBasis (lattice_of_table lat grading) moves
+  pub basis : IsMinimalMarkovBasis (lattice_of_table lat grading) None moves
   pub name : after.made_name ≡ mar_name project
   pub count : ℕ
   pub made : after.made ≡ take count (move_text lat.columns moves)

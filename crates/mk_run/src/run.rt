@@ -103,7 +103,14 @@ fn answer<F: Folder>(
     ensures told { WhereTold (F.told folder.old) (F.told folder.new) (Answers project.now book.new result) }
 {
     let problem = read_project(alloc, folder, project)?;
-    let list = solve_alone(alloc, &problem.lat, &problem.grading, DEFAULT_BUDGET, book)?;
+    let list = solve_alone(
+        alloc,
+        &problem.lat,
+        &problem.grading,
+        DEFAULT_BUDGET,
+        None,
+        book,
+    )?;
     Ok(write_answer(alloc, folder, project, &list)?)
 }
 

@@ -1,5 +1,5 @@
 -- The columns of a run, one after another.
-use Rattle.std.proofs.Common.{◌≡◌, ◌⊎◌, inl, inr, ℕ, zero, suc, ◌+◌, ◌-◌, ◌≤◌, ◌<◌, ◌^◌, Bool, true, false, List, [], ◌∷◌, length, replicate, set, Some, Err, ℤ, refl, arith, ap, sym, ◌∙◌, subst, length-set}
+use Rattle.std.proofs.Common.{◌≡◌, ◌⊎◌, inl, inr, ℕ, zero, suc, ◌+◌, ◌-◌, ◌≤◌, ◌<◌, ◌^◌, Bool, true, false, List, [], ◌∷◌, length, replicate, set, Option, Some, Err, ℤ, refl, arith, ap, sym, ◌∙◌, subst, length-set}
 use Rattle.std.specs.List.{AllZip}
 use Rattle.std.proofs.lemmas.Bool.{cases_lt, both_ways}
 use Rattle.std.proofs.lemmas.List.{length-replicate}
@@ -31,8 +31,8 @@ pub record IsSaturating (rows : List (List ℤ)) (w : List ℤ) (budget : ℕ) (
   pub reached : IsReached rows w budget rest saturation.basis book (lists_for (length w) (columns_left saturation.left))
 
 -- ---- the run begins
-pub nothing_kept : (rows : List (List ℤ)) (w : List ℤ) (budget : ℕ) (book : Book) → book ≡ empty_book → Solves (lattice_with rows w) budget (Err Memory) book
-nothing_kept rows w budget book e = subst (λ (b : Book). Solves (lattice_with rows w) budget (Err Memory) b) (sym e) (record {
+pub nothing_kept : {upto : Option ℕ} (rows : List (List ℤ)) (w : List ℤ) (budget : ℕ) (book : Book) → book ≡ empty_book → Solves (lattice_with rows w) budget upto (Err Memory) book
+nothing_kept {upto} rows w budget book e = subst (λ (b : Book). Solves (lattice_with rows w) budget upto (Err Memory) b) (sym e) (record {
   input = refl;
   settled = omega (arith, none_settled);
   bases = bases_kept w empty_book (All-nil (IsPhaseKept w)) refl;
@@ -135,17 +135,17 @@ module _ (rows : List (List ℤ)) (w : List ℤ) (budget : ℕ) (saturation : Sa
           left : next.left ≡ set saturation.left column false
           left = e ∙ ap (λ c. set saturation.left c false) (least_is_one saturation.left taken column least at.least)
 
-  pub column_stopped : (job : Job) → IsNextJob saturation (budget - settled_of book.phases) (Some job) → (after : Book) → StopsIn job book after → Solves (lattice_with rows w) budget (Err Stopped) after
+  pub column_stopped : {upto : Option ℕ} (job : Job) → IsNextJob saturation (budget - settled_of book.phases) (Some job) → (after : Book) → StopsIn job book after → Solves (lattice_with rows w) budget upto (Err Stopped) after
   column_stopped job n after s =
       let (column, at) = at_column job n in
       stopped_solves rows w budget h.rest saturation.basis book (column ∷ others column (length w)) _ at.reached job at.over after s
 
   -- without memory the book is as before
-  pub without_memory : (after : Book) → after ≡ book → Solves (lattice_with rows w) budget (Err Memory) after
-  without_memory after e = subst (λ (b : Book). Solves (lattice_with rows w) budget (Err Memory) b) (sym e) (reached_solves rows w budget h.rest saturation.basis book _ h.reached)
+  pub without_memory : {upto : Option ℕ} (after : Book) → after ≡ book → Solves (lattice_with rows w) budget upto (Err Memory) after
+  without_memory {upto} after e = subst (λ (b : Book). Solves (lattice_with rows w) budget upto (Err Memory) b) (sym e) (reached_solves rows w budget h.rest saturation.basis book _ h.reached)
 
-  pub column_refused : (job : Job) → IsNextJob saturation (budget - settled_of book.phases) (Some job) → (next : SaturationView) (after : Book) (fault : RunStop) →
-      TakesColumn saturation job book (Err fault) next after → Solves (lattice_with rows w) budget (Err fault) after
+  pub column_refused : {upto : Option ℕ} (job : Job) → IsNextJob saturation (budget - settled_of book.phases) (Some job) → (next : SaturationView) (after : Book) (fault : RunStop) →
+      TakesColumn saturation job book (Err fault) next after → Solves (lattice_with rows w) budget upto (Err fault) after
   column_refused job n next after Memory e = without_memory after e
   column_refused job n next after Stopped s = column_stopped job n after s
 
@@ -162,13 +162,13 @@ module _ (rows : List (List ℤ)) (w : List ℤ) (budget : ℕ) (saturation : Sa
   all_done none job j saturated after t =
       reached_on rows w budget h.rest saturation.basis book (standard (length w)) [] (reached_all none) job (last_job job j) saturated after t
 
-  pub last_stopped : NoneLeft saturation.left → (job : Job) → IsJob saturation.basis (standard (length saturation.basis.grading)) (budget - settled_of book.phases) job → (after : Book) →
-      StopsIn job book after → Solves (lattice_with rows w) budget (Err Stopped) after
+  pub last_stopped : {upto : Option ℕ} → NoneLeft saturation.left → (job : Job) → IsJob saturation.basis (standard (length saturation.basis.grading)) (budget - settled_of book.phases) job → (after : Book) →
+      StopsIn job book after → Solves (lattice_with rows w) budget upto (Err Stopped) after
   last_stopped none job j after s =
       stopped_solves rows w budget h.rest saturation.basis book (standard (length w)) [] (reached_all none) job (last_job job j) after s
 
-  pub last_refused : NoneLeft saturation.left → (job : Job) → IsJob saturation.basis (standard (length saturation.basis.grading)) (budget - settled_of book.phases) job →
-      (after : Book) (fault : RunStop) → TakesLast saturation.basis job book (Err fault) after → Solves (lattice_with rows w) budget (Err fault) after
+  pub last_refused : {upto : Option ℕ} → NoneLeft saturation.left → (job : Job) → IsJob saturation.basis (standard (length saturation.basis.grading)) (budget - settled_of book.phases) job →
+      (after : Book) (fault : RunStop) → TakesLast saturation.basis job book (Err fault) after → Solves (lattice_with rows w) budget upto (Err fault) after
   last_refused none job j after Memory e = without_memory after e
   last_refused none job j after Stopped s = last_stopped none job j after s
 

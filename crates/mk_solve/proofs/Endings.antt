@@ -20,19 +20,19 @@ by_budget lattice budget book (Overflow place stop) e h none = absurd none
 by_budget lattice budget book (Budget settled) e (s, b, h) none = e ∙ ap (λ n. Some (Budget n)) b
 by_budget lattice budget book (BasisFull phase i j) e h none = absurd none
 
-pub solves_by_budget : (lattice : Lattice) (budget : ℕ) (result : Result MoveListView RunStop) (book : Book) → Solves lattice budget result book → StopsByBudget budget result book
-solves_by_budget lattice budget (Ok list) book s used none = absurd (ended_not_used lattice budget (book_as book) _ _ s.ends.1.done.phases used)
-solves_by_budget lattice budget (Err Memory) book s used none = absurd (ended_not_used lattice budget (book_as book) _ _ s.ends.1.phases used)
-solves_by_budget lattice budget (Err Stopped) book s used none =
+pub solves_by_budget : (lattice : Lattice) (budget : ℕ) (upto : Option ℕ) (result : Result MoveListView RunStop) (book : Book) → Solves lattice budget upto result book → StopsByBudget budget result book
+solves_by_budget lattice budget upto (Ok list) book s used none = absurd (ended_not_used lattice budget (book_as book) _ _ s.ends.1.done.phases used)
+solves_by_budget lattice budget upto (Err Memory) book s used none = absurd (ended_not_used lattice budget (book_as book) _ _ s.ends.1.phases used)
+solves_by_budget lattice budget upto (Err Stopped) book s used none =
     let (stop, e, h) = s.ends in
     (refl, by_budget lattice budget book stop e h (subst (λ (kept : Option BookStop). IsNoOtherStop (option_map stop_as kept)) e none))
 
 -- ---- the lattice of a table
-pub table_solves : (grid : Grid) (w : List ℤ) (budget : ℕ) (result : Result MoveListView RunStop) (book : Book) → length w ≡ grid.columns →
-    Solves (lattice_with (rows_of grid) w) budget result book → Solves (lattice_of_table grid w) budget result book
-table_solves grid w budget result book e = subst (λ n. Solves (lattice_of n (rows_of grid) w) budget result book) e
+pub table_solves : (grid : Grid) (w : List ℤ) (budget : ℕ) (upto : Option ℕ) (result : Result MoveListView RunStop) (book : Book) → length w ≡ grid.columns →
+    Solves (lattice_with (rows_of grid) w) budget upto result book → Solves (lattice_of_table grid w) budget upto result book
+table_solves grid w budget upto result book e = subst (λ n. Solves (lattice_of n (rows_of grid) w) budget upto result book) e
 
-pub table_refused : (grid : Grid) (w : List ℤ) (budget : ℕ) (result : Result MoveListView RunStop) (fault : RunStop) (book : Book) → length w ≡ grid.columns → result ≡ Err fault →
-    Solves (lattice_with (rows_of grid) w) budget (Err fault) book → Solves (lattice_of_table grid w) budget result book
-table_refused grid w budget result fault book e f s =
-    subst (λ (result : Result MoveListView RunStop). Solves (lattice_of_table grid w) budget result book) (sym f) (table_solves grid w budget (Err fault) book e s)
+pub table_refused : (grid : Grid) (w : List ℤ) (budget : ℕ) (upto : Option ℕ) (result : Result MoveListView RunStop) (fault : RunStop) (book : Book) → length w ≡ grid.columns → result ≡ Err fault →
+    Solves (lattice_with (rows_of grid) w) budget upto (Err fault) book → Solves (lattice_of_table grid w) budget upto result book
+table_refused grid w budget upto result fault book e f s =
+    subst (λ (result : Result MoveListView RunStop). Solves (lattice_of_table grid w) budget upto result book) (sym f) (table_solves grid w budget upto (Err fault) book e s)

@@ -1,5 +1,5 @@
 -- The essential moves of a run, and why there are none.
-use Rattle.std.proofs.Common.{◌≡◌, ℕ, List, [], length, All, Ok, Result, Err, Some, ℤ, inr, ap, sym, ◌∙◌, subst, refl}
+use Rattle.std.proofs.Common.{◌≡◌, ℕ, List, [], length, All, Ok, Result, Err, Option, Some, ℤ, inr, ap, sym, ◌∙◌, subst, refl}
 use Rattle.mk_model.specs.Bases.{IsMinimalMarkovBasis}
 use Rattle.mk_model.specs.Lattices.{lattice_of, HasGrading}
 use Rattle.mk_model.specs.Overflows.{IsPairOfWeight}
@@ -30,10 +30,10 @@ module _ (rows : List (List ℤ)) (w : List ℤ) (budget : ℕ) (saturated : Bas
   same : basis.grading ≡ w
   same = r.grading ∙ h.grading
 
-  answer_of_rows : (list : MoveListView) → IsMinimalOf basis list → IsMinimalMarkovBasis (lattice_with rows w) (vectors_of list.moves)
-  answer_of_rows list m =
+  answer_of_rows : {upto : Option ℕ} (list : MoveListView) → IsMinimalOf basis upto list → IsMinimalMarkovBasis (lattice_with rows w) upto (vectors_of list.moves)
+  answer_of_rows {upto} list m =
       the_answer_of_others (SameLattice-back (lattice_of_reduced rows w budget saturated book h basis r))
-      (subst (λ (v : List ℤ). IsMinimalMarkovBasis (lattice_of (length v) (vectors_of basis.moves) v) (vectors_of list.moves)) same
+      (subst (λ (v : List ℤ). IsMinimalMarkovBasis (lattice_of (length v) (vectors_of basis.moves) v) upto (vectors_of list.moves)) same
       (the_answer (list_grading basis r.kept) m.answer))
 
   -- the book that keeps the reduced basis
@@ -43,8 +43,8 @@ module _ (rows : List (List ℤ)) (w : List ℤ) (budget : ℕ) (saturated : Bas
   bases : KeepsBases w reduced_book
   bases = record { phases = h.kept; reduced = (r.kept, same) }
 
-  solved : (list : MoveListView) (after : Book) → IsMinimalOf basis list → after ≡ reduced_book → Solves (lattice_with rows w) budget (Ok list) after
-  solved list after m e = subst (λ (b : Book). Solves (lattice_with rows w) budget (Ok list) b) (sym e) (record {
+  solved : {upto : Option ℕ} (list : MoveListView) (after : Book) → IsMinimalOf basis upto list → after ≡ reduced_book → Solves (lattice_with rows w) budget upto (Ok list) after
+  solved {upto} list after m e = subst (λ (b : Book). Solves (lattice_with rows w) budget upto (Ok list) b) (sym e) (record {
     input = h.input;
     settled = h.within;
     bases = bases;
@@ -59,9 +59,9 @@ module _ (rows : List (List ℤ)) (w : List ℤ) (budget : ℕ) (saturated : Bas
     );
   })
 
-  weight_stopped : (after : Book) → KeepsWeightStop basis book after → Solves (lattice_with rows w) budget (Err Stopped) after
+  weight_stopped : {upto : Option ℕ} (after : Book) → KeepsWeightStop basis book after → Solves (lattice_with rows w) budget upto (Err Stopped) after
   unfolding done_with
-  weight_stopped after k = subst (λ (b : Book). Solves (lattice_with rows w) budget (Err Stopped) b) (sym k.kept) (record {
+  weight_stopped {upto} after k = subst (λ (b : Book). Solves (lattice_with rows w) budget upto (Err Stopped) b) (sym k.kept) (record {
     input = h.input;
     settled = h.within;
     bases = record { phases = h.kept; reduced = (r.kept, same) };
@@ -76,8 +76,8 @@ module _ (rows : List (List ℤ)) (w : List ℤ) (budget : ℕ) (saturated : Bas
     );
   })
 
-  without_memory : (after : Book) → after ≡ reduced_book → Solves (lattice_with rows w) budget (Err Memory) after
-  without_memory after e = subst (λ (b : Book). Solves (lattice_with rows w) budget (Err Memory) b) (sym e) (record {
+  without_memory : {upto : Option ℕ} (after : Book) → after ≡ reduced_book → Solves (lattice_with rows w) budget upto (Err Memory) after
+  without_memory {upto} after e = subst (λ (b : Book). Solves (lattice_with rows w) budget upto (Err Memory) b) (sym e) (record {
     input = h.input;
     settled = h.within;
     bases = bases;
@@ -92,7 +92,7 @@ module _ (rows : List (List ℤ)) (w : List ℤ) (budget : ℕ) (saturated : Bas
     );
   })
 
-  pub minimising_solves : (result : Result MoveListView RunStop) (after : Book) → Minimises basis book result after → Solves (lattice_with rows w) budget result after
+  pub minimising_solves : {upto : Option ℕ} (result : Result MoveListView RunStop) (after : Book) → Minimises basis upto book result after → Solves (lattice_with rows w) budget upto result after
   minimising_solves (Ok list) after (m, e) = solved list after m e
   minimising_solves (Err Memory) after e = without_memory after e
   minimising_solves (Err Stopped) after k = weight_stopped after k

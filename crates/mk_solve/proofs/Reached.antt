@@ -1,5 +1,5 @@
 -- A run between two phases: what is reached by those that the book has, and what the next phase adds to it.
-use Rattle.std.proofs.Common.{◌≡◌, ◌⊎◌, inl, inr, ℕ, ◌-◌, ◌≤◌, ◌<◌, List, [], ◌∷◌, ◌++◌, length, All, None, Err, ℤ, refl, arith, ap, sym, ◌∙◌, subst, take}
+use Rattle.std.proofs.Common.{◌≡◌, ◌⊎◌, inl, inr, ℕ, ◌-◌, ◌≤◌, ◌<◌, List, [], ◌∷◌, ◌++◌, length, All, Option, None, Err, ℤ, refl, arith, ap, sym, ◌∙◌, subst, take}
 use Rattle.std.specs.List.{AllZip}
 use Rattle.std.specs.Option.{option_map, IfSome}
 use Rattle.std.proofs.lemmas.List.{length-map, map-append}
@@ -130,7 +130,7 @@ pub bases_kept : (w : List ℤ) (book : Book) → All (IsPhaseKept w) book.phase
 bases_kept w book kept e = record { phases = kept; reduced = subst (λ reduced. IfSome reduced (λ basis. IsReducedList basis × (basis.grading ≡ w))) (sym e) tt }
 
 -- memory ran out between two phases
-pub reached_solves : (rows : List (List ℤ)) (w : List ℤ) (budget : ℕ) (rest : List (List ℤ)) (basis : BasisView) (book : Book) (left : List (List ℕ)) → IsReached rows w budget rest basis book left → Solves (lattice_with rows w) budget (Err Memory) book
+pub reached_solves : {upto : Option ℕ} (rows : List (List ℤ)) (w : List ℤ) (budget : ℕ) (rest : List (List ℤ)) (basis : BasisView) (book : Book) (left : List (List ℕ)) → IsReached rows w budget rest basis book left → Solves (lattice_with rows w) budget upto (Err Memory) book
 reached_solves rows w budget rest basis book left h = record {
   input = h.input;
   settled = h.within;
@@ -211,8 +211,8 @@ module _ (rows : List (List ℤ)) (w : List ℤ) (budget : ℕ) (rest : List (Li
       let at_limit = subst (λ limit. IsBasisFull limit phase (pair_of i k)) j.limit full in
       (phase_as phase, stands phase (BasisFull number i k) number e from, full_in phase (pair_of i k) at_limit, free_in phase (pair_of i k) at_limit.left, less_settled phase less)
 
-  stopped_here : (phase : Phase) (stop : BookStop) → IsPhaseFrom (ledger_for job) phase → IsPhaseStop job (length book.phases) (settled_of (book.phases ++ phase ∷ [])) phase stop →
-      Solves (lattice_with rows w) budget (Err Stopped) (stopped_at book phase stop)
+  stopped_here : {upto : Option ℕ} (phase : Phase) (stop : BookStop) → IsPhaseFrom (ledger_for job) phase → IsPhaseStop job (length book.phases) (settled_of (book.phases ++ phase ∷ [])) phase stop →
+      Solves (lattice_with rows w) budget upto (Err Stopped) (stopped_at book phase stop)
   stopped_here phase stop from cause = record {
     input = h.input;
     settled = within_more phase from;
@@ -220,7 +220,7 @@ module _ (rows : List (List ℤ)) (w : List ℤ) (budget : ℕ) (rest : List (Li
     ends = (stop, refl, has_stopped phase stop from cause);
   }
 
-  pub stopped_solves : (after : Book) → StopsIn job book after → Solves (lattice_with rows w) budget (Err Stopped) after
-  stopped_solves after s =
-      subst (λ (b : Book). Solves (lattice_with rows w) budget (Err Stopped) b) (sym s.kept)
+  pub stopped_solves : {upto : Option ℕ} (after : Book) → StopsIn job book after → Solves (lattice_with rows w) budget upto (Err Stopped) after
+  stopped_solves {upto} after s =
+      subst (λ (b : Book). Solves (lattice_with rows w) budget upto (Err Stopped) b) (sym s.kept)
       (stopped_here s.phase s.stop s.from (subst (λ (b : Book). IsPhaseStop job (length book.phases) (settled_of b.phases) s.phase s.stop) s.kept s.cause))

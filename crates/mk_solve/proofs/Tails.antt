@@ -1,5 +1,5 @@
 -- The reduced basis of a run, and why there is none.
-use Rattle.std.proofs.Common.{◌≡◌, ℕ, List, [], length, Err, Some, ℤ, ap, sym, subst, refl}
+use Rattle.std.proofs.Common.{◌≡◌, ℕ, List, [], length, Option, Err, Some, ℤ, ap, sym, subst, refl}
 use Rattle.std.specs.Option.{option_map}
 use Rattle.mk_model.specs.Books.{BookIsComplete}
 use Rattle.mk_model.specs.Lattices.{lattice_of, SameLattice}
@@ -38,8 +38,8 @@ module _ (rows : List (List ℤ)) (w : List ℤ) (budget : ℕ) (saturated : Bas
     reduced = reduced_of_rows basis r;
   }
 
-  tail_stopped : (after : Book) → KeepsTailStop saturated book after → Solves (lattice_with rows w) budget (Err Stopped) after
-  tail_stopped after k = subst (λ (b : Book). Solves (lattice_with rows w) budget (Err Stopped) b) (sym k.kept) (record {
+  tail_stopped : {upto : Option ℕ} (after : Book) → KeepsTailStop saturated book after → Solves (lattice_with rows w) budget upto (Err Stopped) after
+  tail_stopped {upto} after k = subst (λ (b : Book). Solves (lattice_with rows w) budget upto (Err Stopped) b) (sym k.kept) (record {
     input = h.input;
     settled = h.within;
     bases = bases_kept w (record book { stop = Some (Overflow (Tail k.index) k.stop) }) h.kept h.reduced;
@@ -56,7 +56,7 @@ module _ (rows : List (List ℤ)) (w : List ℤ) (budget : ℕ) (saturated : Bas
   })
 
   -- no reduced basis
-  pub reduction_refused : (fault : RunStop) (after : Book) → Reduces saturated book (Err fault) after → Solves (lattice_with rows w) budget (Err fault) after
-  reduction_refused Memory after e =
-      subst (λ (b : Book). Solves (lattice_with rows w) budget (Err Memory) b) (sym e) (reached_solves rows w budget (vectors_of saturated.moves) saturated book [] h)
+  pub reduction_refused : {upto : Option ℕ} (fault : RunStop) (after : Book) → Reduces saturated book (Err fault) after → Solves (lattice_with rows w) budget upto (Err fault) after
+  reduction_refused {upto} Memory after e =
+      subst (λ (b : Book). Solves (lattice_with rows w) budget upto (Err Memory) b) (sym e) (reached_solves rows w budget (vectors_of saturated.moves) saturated book [] h)
   reduction_refused Stopped after k = tail_stopped after k

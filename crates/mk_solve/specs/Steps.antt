@@ -1,5 +1,5 @@
 -- What the steps of a run give, and what they leave in the book.
-use Rattle.std.specs.Prelude.{◌≡◌, ℕ, ◌<◌, List, [], ◌∷◌, ◌++◌, length, All, Bool, false, set, Some, Result, Ok, Err}
+use Rattle.std.specs.Prelude.{◌≡◌, ℕ, ◌<◌, List, [], ◌∷◌, ◌++◌, length, All, Bool, false, set, Option, Some, Result, Ok, Err}
 use Rattle.mk_model.specs.Bases.{IsAnswer}
 use Rattle.mk_model.specs.CoreStates.{pair_of}
 use Rattle.mk_model.specs.Lattices.{SameLattice}
@@ -103,11 +103,11 @@ Reduces saturated before (Ok basis) after = IsReducedOf saturated basis × (afte
 Reduces saturated before (Err Memory) after = after ≡ before
 Reduces saturated before (Err Stopped) after = KeepsTailStop saturated before after
 
--- the essential moves of what the reduced basis spans
-pub record IsMinimalOf (basis : BasisView) (list : MoveListView) : Type 0 where
+-- the essential moves, up to the bound, of what the reduced basis spans
+pub record IsMinimalOf (basis : BasisView) (upto : Option ℕ) (list : MoveListView) : Type 0 where
   pub columns : list.columns ≡ length basis.grading
   pub graded : All (IsGraded basis.grading) list.moves
-  pub answer : IsAnswer (lattice_spanned basis) (vectors_of list.moves)
+  pub answer : IsAnswer (lattice_spanned basis) upto (vectors_of list.moves)
 
 -- a stop at a weight of the reduced basis, and this basis, which the book keeps
 pub record KeepsWeightStop (basis : BasisView) (before after : Book) : Type 0 where
@@ -117,7 +117,7 @@ pub record KeepsWeightStop (basis : BasisView) (before after : Book) : Type 0 wh
   pub kept : after ≡ record before { reduced = Some basis; stop = Some (Overflow Degree stop) }
 
 -- the essential moves, or why there are none; the book keeps the reduced basis
-abbrev pub Minimises : BasisView → Book → Result MoveListView RunStop → Book → Type 0
-Minimises basis before (Ok list) after = IsMinimalOf basis list × (after ≡ record before { reduced = Some basis })
-Minimises basis before (Err Memory) after = after ≡ record before { reduced = Some basis }
-Minimises basis before (Err Stopped) after = KeepsWeightStop basis before after
+abbrev pub Minimises : BasisView → Option ℕ → Book → Result MoveListView RunStop → Book → Type 0
+Minimises basis upto before (Ok list) after = IsMinimalOf basis upto list × (after ≡ record before { reduced = Some basis })
+Minimises basis upto before (Err Memory) after = after ≡ record before { reduced = Some basis }
+Minimises basis upto before (Err Stopped) after = KeepsWeightStop basis before after

@@ -37,8 +37,9 @@ impl From<NoMemory> for RunStop {
     }
 }
 
-/// The essential moves of the lattice of a table's rows, ascending by move order, by one worker. The grading has as many columns as
-/// the table and product 0 with each row, and at most so many pairs are settled; those of the last step aren't counted. The book,
+/// The essential moves of the lattice of a table's rows, of weights up to a bound, ascending by move order, by one worker. No bound is
+/// above every weight; the completions and the tails have none. The grading has as many columns as the table and product 0 with each
+/// row, and at most so many pairs are settled; those of the last step aren't counted. The book,
 /// which is empty, keeps each phase, the one that stopped too, and the reduced basis. `Stopped` exactly where the book has a stop; where
 /// memory runs out it keeps the phases that ended. (Sturmfels, chapters 1, 5 and 12)
 pub fn solve_alone(
@@ -46,12 +47,13 @@ pub fn solve_alone(
     lat: &Table,
     grading: &Grading,
     budget: u64,
+    upto: Option<u64>,
     book: &mut RunBook,
 ) -> Result<MinimalList, RunStop>
     requires book { book.old ≡ empty_book }
     requires columns { length grading.now ≡ lat.now.columns }
     requires graded { All (λ row. weight grading.now row ≡ pos 0) (rows_of lat.now) }
-    ensures solved { Solves (lattice_of_table lat.now grading.now) budget result book.new }
+    ensures solved { Solves (lattice_of_table lat.now grading.now) budget upto result book.new }
     ensures budget { StopsByBudget budget result book.new }
 {
     let mut saturation = Saturation::start(alloc, lat, grading)?;
@@ -62,7 +64,7 @@ pub fn solve_alone(
     let job = saturation.final_job(alloc, budget - book.settled())?;
     let saturated = finish(alloc, &saturation, job, book)?;
     let reduced = reduce(alloc, &saturated, book)?;
-    choose(alloc, reduced, grading, book)
+    choose(alloc, reduced, grading, upto, book)
 }
 
 /// Saturates the least unsaturated column by the phase of its job, which the book keeps, the one that stopped too.
@@ -135,18 +137,19 @@ fn reduce(
     }
 }
 
-/// The essential moves, chosen from the reduced basis, which the book keeps. Where an entry leaves the range the book keeps that
-/// stop.
+/// The essential moves up to a bound, chosen from the reduced basis, which the book keeps. Where an entry leaves the range the book
+/// keeps that stop.
 fn choose(
     alloc: Global,
     reduced: ReducedBasis,
     grading: &Grading,
+    upto: Option<u64>,
     book: &mut RunBook,
 ) -> Result<MinimalList, RunStop>
     requires { grading.now ≡ reduced.grading }
-    ensures { Minimises reduced book.old result book.new }
+    ensures { Minimises reduced upto book.old result book.new }
 {
-    let chosen = minimise(alloc, &reduced, grading);
+    let chosen = minimise(alloc, &reduced, grading, upto);
     book.keep_reduced(reduced);
     match chosen {
         Ok(list) => Ok(list),

@@ -175,7 +175,7 @@ fn choose(rt: &HostRuntime, saturated: &SaturatedBasis) -> io::Result<ExitCode> 
     let basis = reduced.basis();
     println!(rt; "tails {} moves", basis.len())?;
 
-    let Ok(list) = minimise(rt.alloc(), &reduced, basis.grading()) else {
+    let Ok(list) = minimise(rt.alloc(), &reduced, basis.grading(), None) else {
         return Ok(ExitCode::from(2));
     };
     println!(rt; "minimising {} moves", list.len())?;

@@ -1,7 +1,6 @@
-use Rattle.std.proofs.Common.{length, arith, subst}
-use Rattle.std.proofs.lemmas.List.{length-map}
+use Rattle.std.proofs.Common.{length, subst}
 use Rattle.mk_move.specs.MoveLists.{BasisView, vectors_of}
-use Rattle.mk_minimise.specs.Stages.{AreChosen}
+use Rattle.mk_minimise.specs.Stages.{AreChosenUpTo}
 use Rattle.mk_minimise.proofs.ChosenMoves.{chosen_are_answer}
 use Rattle.mk_minimise.proofs.LowerFronts.{list_grading}
 use Rattle.mk_minimise.proofs.minimal.minimise.Goals as goal
@@ -10,6 +9,5 @@ pub returns-clause-answer : goal.returns-clause-answer
 returns-clause-answer c =
     let basis = c.args.basis.now in
     let chosen = c.in_ok-chosen.chosen.items in
-    let all = subst (λ (b : BasisView). AreChosen (length b.grading) b.grading (vectors_of b.moves) (length b.moves) (vectors_of chosen)) c.basis-moves.ensures.value c.in_ok-chosen.ensures.chosen in
-    chosen_are_answer (length basis.grading) basis.grading (vectors_of basis.moves) (list_grading basis c.basis-moves.ensures.kept) c.basis-moves.ensures.kept.reduced (length basis.moves)
-    (omega (arith, length-map basis.moves (λ m. m.entries))) (vectors_of chosen) all
+    let all = subst (λ (b : BasisView). AreChosenUpTo (length b.grading) b.grading (vectors_of b.moves) c.args.upto (vectors_of chosen)) c.basis-moves.ensures.value c.in_ok-chosen.ensures.chosen in
+    chosen_are_answer (length basis.grading) basis.grading (vectors_of basis.moves) c.args.upto (vectors_of chosen) all (list_grading basis c.basis-moves.ensures.kept) c.basis-moves.ensures.kept.reduced

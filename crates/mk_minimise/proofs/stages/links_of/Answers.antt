@@ -1,9 +1,11 @@
-use Rattle.std.proofs.Common.{◌≡◌, ◌∷◌, ◌++◌, [], get_or, length, take, List, ℤ, sym, subst, ap, ◌∙◌, rules}
+use Rattle.std.proofs.Common.{◌≡◌, ◌∷◌, ◌++◌, [], get_or, length, take, ℕ, List, Option, ℤ, sym, subst, ap, ◌∙◌}
 use mir.Syntax.{w128}
 use mir.Val.{to_z, of_z}
 use Rattle.std.proofs.lemmas.List.{take_all, take_more}
+use Rattle.mk_model.specs.Bases.{IsUpTo}
 use Rattle.mk_model.specs.CoreStates.{pair_of}
 use Rattle.mk_move.specs.MoveLists.{BasisView, vectors_of}
+use Rattle.mk_minimise.specs.declared.minimal.MinimiseFault.{MinimiseFault}
 use Rattle.mk_minimise.specs.declared.overlaps.Overlap.{Overlap}
 use Rattle.mk_minimise.specs.Overlaps.{AreOverlaps}
 use Rattle.mk_minimise.specs.LinkSteps.{IsAdded}
@@ -14,6 +16,7 @@ use Rattle.mk_minimise.proofs.RunsOfWeight.{weight_is}
 use Rattle.mk_minimise.proofs.WideNumbers.{wide_same}
 use Rattle.mk_minimise.proofs.GatheredLinks.{AreGathered, gather_none, gather_some, links_tell}
 use Rattle.mk_minimise.proofs.StageSteps.{pair_fault_is}
+use Rattle.mk_minimise.proofs.Faults.{handed_on}
 use Rattle.mk_minimise.proofs.stages.links_of.Goals as goal
 use Rattle.mk_minimise.proofs.stages.links_of.Goals.{After-deref-pair-items, in-Some+in_ok-add_link, in_default}
 
@@ -39,9 +42,9 @@ pub returns-in_err-rest-clause-refused : goal.returns-in_err-rest-clause-refused
 returns-in_err-rest-clause-refused c =
     let basis = c.args.basis.now in
     let found = of_bound (goal.at.returns-in_err-rest-clause-refused c).After-deref-pair-items in
-    let fault : IsMinimiseFault basis c.in_err-rest.field-0.0 =
+    let fault : (upto : Option ℕ) → IsUpTo upto (weight_at basis (length c.args.lower.now.moves)) → IsMinimiseFault basis upto c.in_err-rest.field-0.0 =
     pair_fault_is basis c.requires.reduced c.args.lower.now c.requires.front c.requires.within _ (found.each c.loop-pair.pair-index _ c.loop-pair-test.true) c.in_err-rest.field-0.0 c.in_err-rest.ensures in
-    search rules
+    handed_on (λ (fault : MinimiseFault). (upto : Option ℕ) → IsUpTo upto (weight_at basis (length c.args.lower.now.moves)) → IsMinimiseFault basis upto fault) c.from_residual-in_err-rest.result c.in_err-rest.field-0.0 c.from_residual-in_err-rest.ensures.1 fault
 
 pub loop-pair-preserved : goal.loop-pair-preserved
 loop-pair-preserved c =

@@ -37,9 +37,9 @@ last_job c =
 
 pub returns-in_err-saturation : goal.returns-in_err-saturation
 returns-in_err-saturation c =
-    let s = table_refused c.args.lat.now c.args.grading.now c.args.budget c.from_residual.result Memory c.args.book.now c.requires.columns (the_error c.from_residual.result Memory c.from_residual.ensures.1)
+    let s = table_refused c.args.lat.now c.args.grading.now c.args.budget c.args.upto c.from_residual.result Memory c.args.book.now c.requires.columns (the_error c.from_residual.result Memory c.from_residual.ensures.1)
     (nothing_kept (rows_of c.args.lat.now) c.args.grading.now c.args.budget c.args.book.now c.requires.book) in
-    record { solved = s; budget = solves_by_budget _ c.args.budget _ c.args.book.now s }
+    record { solved = s; budget = solves_by_budget _ c.args.budget _ _ c.args.book.now s }
 
 pub loop-saturation-init : goal.loop-saturation-init
 loop-saturation-init c =
@@ -57,37 +57,37 @@ loop-saturation-preserved c =
 pub returns-in_err-job : goal.returns-in_err-job
 returns-in_err-job c =
     let book = c.loop-saturation.book in
-    let s = table_refused c.args.lat.now c.args.grading.now c.args.budget c.from_residual-in_err-job.result Memory book c.requires.columns (the_error c.from_residual-in_err-job.result Memory c.from_residual-in_err-job.ensures.1)
+    let s = table_refused c.args.lat.now c.args.grading.now c.args.budget c.args.upto c.from_residual-in_err-job.result Memory book c.requires.columns (the_error c.from_residual-in_err-job.result Memory c.from_residual-in_err-job.ensures.1)
     (reached_solves (rows_of c.args.lat.now) c.args.grading.now c.args.budget c.loop-saturation.invariant.rest c.loop-saturation.saturation.basis book _ c.loop-saturation.invariant.reached) in
-    record { solved = s; budget = solves_by_budget _ c.args.budget _ book s }
+    record { solved = s; budget = solves_by_budget _ c.args.budget _ _ book s }
 
 pub returns-in_err-saturate_column : goal.returns-in_err-saturate_column
 returns-in_err-saturate_column c =
     let fault = c.in_err-saturate_column.field-0.0 in
     let after = c.saturate_column.new.book in
-    let s = table_refused c.args.lat.now c.args.grading.now c.args.budget c.from_residual-in_err-saturate_column.result fault after c.requires.columns
+    let s = table_refused c.args.lat.now c.args.grading.now c.args.budget c.args.upto c.from_residual-in_err-saturate_column.result fault after c.requires.columns
     (the_error c.from_residual-in_err-saturate_column.result fault c.from_residual-in_err-saturate_column.ensures.1)
     (column_refused (rows_of c.args.lat.now) c.args.grading.now c.args.budget c.loop-saturation.saturation c.loop-saturation.book c.loop-saturation.invariant c.in-Some.job
     (next_job (goal.at.returns-in_err-saturate_column c).In-Some) c.saturate_column.new.saturation after fault c.in_err-saturate_column.ensures) in
-    record { solved = s; budget = solves_by_budget _ c.args.budget _ after s }
+    record { solved = s; budget = solves_by_budget _ c.args.budget _ _ after s }
 
 pub returns-in_err-job-2 : goal.returns-in_err-job-2
 returns-in_err-job-2 c =
     let book = c.loop-saturation.book in
-    let s = table_refused c.args.lat.now c.args.grading.now c.args.budget c.from_residual-in_err-job-2.result Memory book c.requires.columns (the_error c.from_residual-in_err-job-2.result Memory c.from_residual-in_err-job-2.ensures.1)
+    let s = table_refused c.args.lat.now c.args.grading.now c.args.budget c.args.upto c.from_residual-in_err-job-2.result Memory book c.requires.columns (the_error c.from_residual-in_err-job-2.result Memory c.from_residual-in_err-job-2.ensures.1)
     (reached_solves (rows_of c.args.lat.now) c.args.grading.now c.args.budget c.loop-saturation.invariant.rest c.loop-saturation.saturation.basis book _ c.loop-saturation.invariant.reached) in
-    record { solved = s; budget = solves_by_budget _ c.args.budget _ book s }
+    record { solved = s; budget = solves_by_budget _ c.args.budget _ _ book s }
 
 pub returns-in_err-saturated : goal.returns-in_err-saturated
 returns-in_err-saturated c =
     let fault = c.in_err-saturated.field-0.0 in
     let after = c.finish.new.book in
     let at = goal.at.returns-in_err-saturated c in
-    let s = table_refused c.args.lat.now c.args.grading.now c.args.budget c.from_residual-in_err-saturated.result fault after c.requires.columns
+    let s = table_refused c.args.lat.now c.args.grading.now c.args.budget c.args.upto c.from_residual-in_err-saturated.result fault after c.requires.columns
     (the_error c.from_residual-in_err-saturated.result fault c.from_residual-in_err-saturated.ensures.1)
     (last_refused (rows_of c.args.lat.now) c.args.grading.now c.args.budget c.loop-saturation.saturation c.loop-saturation.book c.loop-saturation.invariant (none_left at.In_default)
     c.in_ok-job-2.job (last_job at.In_ok-job-2) after fault c.in_err-saturated.ensures) in
-    record { solved = s; budget = solves_by_budget _ c.args.budget _ after s }
+    record { solved = s; budget = solves_by_budget _ c.args.budget _ _ after s }
 
 -- every phase is ended
 reached_all : (c : In_ok-saturated) → NoneLeft c.loop-saturation.saturation.left →
@@ -102,11 +102,11 @@ returns-in_err-reduced c =
     let fault = c.in_err-reduced.field-0.0 in
     let after = c.reduce.new.book in
     let at = goal.at.returns-in_err-reduced c in
-    let s = table_refused c.args.lat.now c.args.grading.now c.args.budget c.from_residual-in_err-reduced.result fault after c.requires.columns
+    let s = table_refused c.args.lat.now c.args.grading.now c.args.budget c.args.upto c.from_residual-in_err-reduced.result fault after c.requires.columns
     (the_error c.from_residual-in_err-reduced.result fault c.from_residual-in_err-reduced.ensures.1)
     (reduction_refused (rows_of c.args.lat.now) c.args.grading.now c.args.budget c.in_ok-saturated.saturated c.finish.new.book (reached_all at.In_ok-saturated (none_left at.In_default) (last_job at.In_ok-job-2))
     fault after c.in_err-reduced.ensures) in
-    record { solved = s; budget = solves_by_budget _ c.args.budget _ after s }
+    record { solved = s; budget = solves_by_budget _ c.args.budget _ _ after s }
 
 pub choose-requires : goal.choose-requires
 choose-requires c =
@@ -118,9 +118,9 @@ pub returns : goal.returns
 returns c =
     let at = goal.at.returns c in
     let reached = reached_all at.In_ok-saturated (none_left at.In_default) (last_job at.In_ok-job-2) in
-    let s = table_solves c.args.lat.now c.args.grading.now c.args.budget c.choose.result c.choose.new.book c.requires.columns
+    let s = table_solves c.args.lat.now c.args.grading.now c.args.budget c.args.upto c.choose.result c.choose.new.book c.requires.columns
     (minimising_solves (rows_of c.args.lat.now) c.args.grading.now c.args.budget c.in_ok-saturated.saturated c.reduce.new.book
     (subst (λ (b : Book). IsReached (rows_of c.args.lat.now) c.args.grading.now c.args.budget (vectors_of c.in_ok-saturated.saturated.moves) c.in_ok-saturated.saturated b [])
     (sym c.in_ok-reduced.ensures.1) reached)
     c.in_ok-reduced.reduced c.in_ok-reduced.ensures.0 c.choose.result c.choose.new.book c.choose.ensures) in
-    record { solved = s; budget = solves_by_budget _ c.args.budget _ c.choose.new.book s }
+    record { solved = s; budget = solves_by_budget _ c.args.budget _ _ c.choose.new.book s }

@@ -3,19 +3,25 @@ ghost use Rattle.mk_solve.specs.Books.{settled_of};
 ghost use Rattle.mk_solve.specs.Steps.{Completes, KeepsStop};
 
 use crate::book::{BookStop, OverflowPlace, RunBook};
+use crate::crew::Crew;
 use crate::solving::RunStop;
-use mk_core::{Completed, Job, Phase, Stopped, complete_alone};
+use mk_core::{Completed, Job, Phase, Stopped};
 use std::alloc::Global;
 
 /// Completes the phase of a job. Where it stops the book keeps the phase and its stop; else the book is as before.
-pub(crate) fn complete(alloc: Global, job: Job, book: &mut RunBook) -> Result<Completed, RunStop>
+pub(crate) fn complete<C: Crew>(
+    alloc: Global,
+    crew: &mut C,
+    job: Job,
+    book: &mut RunBook,
+) -> Result<Completed, RunStop>
     requires start { length job.start.moves ≤ job.basis_limit }
     requires limit { job.basis_limit ≤ 65536 }
     requires room { length book.old.phases + 1 < 2 ^ 32 }
     requires sum { settled_of book.old.phases + job.budget < 2 ^ 64 }
     ensures { Completes job book.old result book.new }
 {
-    match complete_alone(alloc, job) {
+    match crew.complete(alloc, job) {
         Ok(completed) => Ok(completed),
         Err(Stopped::Memory) => Err(RunStop::Memory),
         Err(Stopped::Overflow { phase, stop }) => {

@@ -4,11 +4,13 @@
 
 mod book;
 mod completing;
+mod crew;
 mod solving;
 
 pub use book::{BookStop, OverflowPlace, RunBook};
+pub use crew::{Crew, OneWorker};
 pub use mk_core::{Journal, JournalEntry, Kind, Phase};
 pub use mk_ledger::OverflowStop;
 pub use mk_minimise::MinimalList;
 pub use mk_project::{InputFault, InputFile};
-pub use solving::{RunStop, solve_alone};
+pub use solving::{RunStop, solve, solve_alone};

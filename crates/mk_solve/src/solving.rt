@@ -9,11 +9,12 @@ ghost use Rattle.mk_solve.specs.Steps.{TakesColumn, TakesLast, Reduces, Minimise
 
 use crate::book::{BookStop, OverflowPlace, RunBook};
 use crate::completing::complete;
+use crate::crew::{Crew, OneWorker};
 use mk_core::{Job, SaturatedBasis};
 use mk_files::Table;
-use mk_inter::{ReducedBasis, TailFault, reduce_tails};
+use mk_inter::{ReducedBasis, TailFault};
 use mk_ledger::OverflowStop;
-use mk_minimise::{MinimalList, MinimiseFault, minimise};
+use mk_minimise::{MinimalList, MinimiseFault};
 use mk_model::NoMemory;
 use mk_move::Grading;
 use mk_saturate::Saturation;
@@ -56,20 +57,41 @@ pub fn solve_alone(
     ensures solved { Solves (lattice_of_table lat.now grading.now) budget upto result book.new }
     ensures budget { StopsByBudget budget result book.new }
 {
+    solve(alloc, &mut OneWorker, lat, grading, budget, upto, book)
+}
+
+/// The essential moves of the lattice of a table's rows, of weights up to a bound, ascending by move order, by a crew, as
+/// `solve_alone` has them by one worker.
+pub fn solve<C: Crew>(
+    alloc: Global,
+    crew: &mut C,
+    lat: &Table,
+    grading: &Grading,
+    budget: u64,
+    upto: Option<u64>,
+    book: &mut RunBook,
+) -> Result<MinimalList, RunStop>
+    requires book { book.old ≡ empty_book }
+    requires columns { length grading.now ≡ lat.now.columns }
+    requires graded { All (λ row. weight grading.now row ≡ pos 0) (rows_of lat.now) }
+    ensures solved { Solves (lattice_of_table lat.now grading.now) budget upto result book.new }
+    ensures budget { StopsByBudget budget result book.new }
+{
     let mut saturation = Saturation::start(alloc, lat, grading)?;
     saturation.free_columns();
     while let Some(job) = saturation.next_job(alloc, budget - book.settled())? {
-        saturate_column(alloc, &mut saturation, job, book)?;
+        saturate_column(alloc, crew, &mut saturation, job, book)?;
     }
     let job = saturation.final_job(alloc, budget - book.settled())?;
-    let saturated = finish(alloc, &saturation, job, book)?;
-    let reduced = reduce(alloc, &saturated, book)?;
-    choose(alloc, reduced, grading, upto, book)
+    let saturated = finish(alloc, crew, &saturation, job, book)?;
+    let reduced = reduce(alloc, crew, &saturated, book)?;
+    choose(alloc, crew, reduced, grading, upto, book)
 }
 
 /// Saturates the least unsaturated column by the phase of its job, which the book keeps, the one that stopped too.
-fn saturate_column(
+fn saturate_column<C: Crew>(
     alloc: Global,
+    crew: &mut C,
     saturation: &mut Saturation,
     job: Job,
     book: &mut RunBook,
@@ -79,15 +101,16 @@ fn saturate_column(
     requires sum { settled_of book.old.phases + job.budget < 2 ^ 64 }
     ensures { TakesColumn saturation.old job book.old result saturation.new book.new }
 {
-    let completed = complete(alloc, job, book)?;
+    let completed = complete(alloc, crew, job, book)?;
     saturation.accept(&completed)?;
     book.push_phase(completed.into_phase())?;
     Ok(())
 }
 
 /// The saturated basis, by the phase of the last job, which the book keeps, the one that stopped too.
-fn finish(
+fn finish<C: Crew>(
     alloc: Global,
+    crew: &mut C,
     saturation: &Saturation,
     job: Job,
     book: &mut RunBook,
@@ -98,21 +121,22 @@ fn finish(
     requires sum { settled_of book.old.phases + job.budget < 2 ^ 64 }
     ensures { TakesLast saturation.now.basis job book.old result book.new }
 {
-    let completed = complete(alloc, job, book)?;
+    let completed = complete(alloc, crew, job, book)?;
     let saturated = saturation.finish(&completed)?;
     book.push_phase(completed.into_phase())?;
     Ok(saturated)
 }
 
 /// The reduced basis. Where an entry leaves the range the book keeps that stop.
-fn reduce(
+fn reduce<C: Crew>(
     alloc: Global,
+    crew: &mut C,
     saturated: &SaturatedBasis,
     book: &mut RunBook,
 ) -> Result<ReducedBasis, RunStop>
     ensures { Reduces saturated.now book.old result book.new }
 {
-    match reduce_tails(alloc, saturated) {
+    match crew.reduce_tails(alloc, saturated) {
         Ok(reduced) => Ok(reduced),
         Err(TailFault::Memory) => Err(RunStop::Memory),
         Err(
@@ -139,8 +163,9 @@ fn reduce(
 
 /// The essential moves up to a bound, chosen from the reduced basis, which the book keeps. Where an entry leaves the range the book
 /// keeps that stop.
-fn choose(
+fn choose<C: Crew>(
     alloc: Global,
+    crew: &mut C,
     reduced: ReducedBasis,
     grading: &Grading,
     upto: Option<u64>,
@@ -149,7 +174,7 @@ fn choose(
     requires { grading.now ≡ reduced.grading }
     ensures { Minimises reduced upto book.old result book.new }
 {
-    let chosen = minimise(alloc, &reduced, grading, upto);
+    let chosen = crew.minimise(alloc, &reduced, grading, upto);
     book.keep_reduced(reduced);
     match chosen {
         Ok(list) => Ok(list),

@@ -34,7 +34,7 @@ impl From<AllocError> for MoveFault {
 }
 
 /// How many entries lie in the move itself.
-const INLINE: usize = 8;
+const INLINE: usize = 4;
 
 pub(crate) type Entries = SmallVec<Entry, INLINE>;
 

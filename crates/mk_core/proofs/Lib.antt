@@ -4,6 +4,7 @@ pub mod Endings
 pub mod Settling
 pub mod Limits
 pub mod Finishing
+pub mod JobPhases
 pub mod Completions
 pub mod Remainders
 pub mod NeededMoves

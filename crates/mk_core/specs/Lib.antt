@@ -1,4 +1,5 @@
 pub mod Phases
+pub mod JobPhases
 pub mod GoingOn
 pub mod Remainders
 pub mod Seats

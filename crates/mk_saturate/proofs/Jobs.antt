@@ -1,20 +1,16 @@
 -- A phase that a job's completion gives, as one that begins with the moves that the job is over.
-use Rattle.std.proofs.Common.{ℕ, List, ℤ, length, arith, sym, ◌∙◌, subst}
+use Rattle.std.proofs.Common.{ℕ, List, sym, ◌∙◌, subst}
 use Rattle.std.specs.List.{AllZip}
-use Rattle.std.proofs.lemmas.List.{take_all}
 use Rattle.mk_move.specs.MoveLists.{BasisView, vectors_of}
-use Rattle.mk_core.specs.Phases.{ledger_for, IsPhaseFrom}
+use Rattle.mk_core.specs.JobPhases.{IsPhaseOf}
 use Rattle.mk_core.specs.declared.phase.Job.{Job}
 use Rattle.mk_core.specs.declared.phase.Phase.{Phase}
 use Rattle.mk_model.specs.Orders.{IsRowTurned}
 use Rattle.mk_saturate.specs.Saturations.{IsJob, IsPhaseFromBasis}
 
-pub phase_of_job : (basis : BasisView) (p : List ℕ) (budget : ℕ) (job : Job) (phase : Phase) → IsJob basis p budget job → IsPhaseFrom (ledger_for job) phase → IsPhaseFromBasis basis p phase
+pub phase_of_job : (basis : BasisView) (p : List ℕ) (budget : ℕ) (job : Job) (phase : Phase) → IsJob basis p budget job → IsPhaseOf job phase → IsPhaseFromBasis basis p phase
 phase_of_job basis p budget job phase h from = record {
   priority = from.priority ∙ h.priority;
   grading = from.grading ∙ h.grading;
-  begun = subst (λ start. AllZip (IsRowTurned p) (vectors_of basis.moves) start) (sym (from.start ∙ take_all (length start) start (omega arith))) h.begun;
+  begun = subst (λ start. AllZip (IsRowTurned p) (vectors_of basis.moves) start) (sym from.start) h.begun;
 }
-  where
-    start : List (List ℤ)
-    start = vectors_of job.start.moves

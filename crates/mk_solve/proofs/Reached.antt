@@ -18,7 +18,8 @@ use Rattle.mk_model.proofs.LegalEvents.{phase_is_legal}
 use Rattle.mk_move.specs.MoveLists.{BasisView, vectors_of}
 use Rattle.mk_ledger.specs.Entries.{settles_of}
 use Rattle.mk_ledger.specs.Halts.{stop_of}
-use Rattle.mk_core.specs.Phases.{ledger_for, state_of, IsPhaseFrom, IsLeft, IsBasisFull}
+use Rattle.mk_core.specs.Phases.{state_of, IsLeft, IsBasisFull}
+use Rattle.mk_core.specs.JobPhases.{IsPhaseOf}
 use Rattle.mk_core.specs.declared.phase.Job.{Job}
 use Rattle.mk_core.specs.declared.phase.Phase.{Phase}
 use Rattle.mk_saturate.specs.Saturations.{IsJob, IsPhaseFromBasis}
@@ -71,7 +72,7 @@ lattice_with rows w = lattice_of (length w) rows w
 
 -- ---- the phase of a job over the moves
 module _ (w : List ℤ) (rest : List (List ℤ)) (basis : BasisView) (p : List ℕ) (budget : ℕ) (job : Job) (phase : Phase)
-    (turned : AllZip IsEither rest (vectors_of basis.moves)) (same : basis.grading ≡ w) (h : IsJob basis p budget job) (from : IsPhaseFrom (ledger_for job) phase) where
+    (turned : AllZip IsEither rest (vectors_of basis.moves)) (same : basis.grading ≡ w) (h : IsJob basis p budget job) (from : IsPhaseOf job phase) where
   abbrev settled : ℕ
   settled = length (settles_of phase.journal)
 
@@ -140,14 +141,14 @@ reached_solves rows w budget rest basis book left h = record {
 
 module _ (rows : List (List ℤ)) (w : List ℤ) (budget : ℕ) (rest : List (List ℤ)) (basis : BasisView) (book : Book) (p : List ℕ) (left : List (List ℕ))
     (h : IsReached rows w budget rest basis book (p ∷ left)) (job : Job) (j : IsJob basis p (budget - settled_of book.phases) job) where
-  along : (phase : Phase) → IsPhaseFrom (ledger_for job) phase → IsPhaseAlong (length w) rest p (phase_as phase)
+  along : (phase : Phase) → IsPhaseOf job phase → IsPhaseAlong (length w) rest p (phase_as phase)
   along phase from = phase_along w rest basis p (budget - settled_of book.phases) job phase h.turned h.grading j from
 
-  within_more : (phase : Phase) → IsPhaseFrom (ledger_for job) phase → settled_of (book.phases ++ phase ∷ []) ≤ budget
+  within_more : (phase : Phase) → IsPhaseOf job phase → settled_of (book.phases ++ phase ∷ []) ≤ budget
   within_more phase from =
       let given = j.budget_given in omega (arith, settled_push book.phases phase, settled_within job phase from, h.within, given)
 
-  kept_more : (phase : Phase) → IsPhaseFrom (ledger_for job) phase → All (IsPhaseKept w) (book.phases ++ phase ∷ [])
+  kept_more : (phase : Phase) → IsPhaseOf job phase → All (IsPhaseKept w) (book.phases ++ phase ∷ [])
   kept_more phase from =
       All-push (IsPhaseKept w) book.phases phase h.kept (phase_kept w rest basis p (budget - settled_of book.phases) job phase h.turned h.grading j from)
 
@@ -176,7 +177,7 @@ module _ (rows : List (List ℤ)) (w : List ℤ) (budget : ℕ) (rest : List (Li
           (saturate_push (length w) _ _ (phases_as book.phases) rest p left (phase_as t.phase) h.phases (along t.phase t.from) (ended_within t.phase job.budget job.basis_limit t.ended))
 
   -- a phase that stopped
-  stands : (phase : Phase) (stop : BookStop) (number : ℕ) → number ≡ length book.phases → IsPhaseFrom (ledger_for job) phase →
+  stands : (phase : Phase) (stop : BookStop) (number : ℕ) → number ≡ length book.phases → IsPhaseOf job phase →
       StandsAt (lattice_with rows w) (book_as (stopped_at book phase stop)) number (phase_as phase)
   stands phase stop number e from = record {
     earlier = phases_as book.phases;
@@ -194,7 +195,7 @@ module _ (rows : List (List ℤ)) (w : List ℤ) (budget : ℕ) (rest : List (Li
   less_settled : (phase : Phase) → length phase.journal < job.budget → settled_of (book.phases ++ phase ∷ []) < budget
   less_settled phase l = let given = j.budget_given in omega (arith, settled_push book.phases phase, l, h.within, given)
 
-  has_stopped : (phase : Phase) (stop : BookStop) → IsPhaseFrom (ledger_for job) phase → IsPhaseStop job (length book.phases) (settled_of (book.phases ++ phase ∷ [])) phase stop →
+  has_stopped : (phase : Phase) (stop : BookStop) → IsPhaseOf job phase → IsPhaseStop job (length book.phases) (settled_of (book.phases ++ phase ∷ [])) phase stop →
       HasStopped (lattice_with rows w) budget (book_as (stopped_at book phase stop)) (stop_as stop)
   has_stopped phase (Overflow (Pair number) stop) from (e, free, genuine, less) =
       (phase_as phase, stands phase (Overflow (Pair number) stop) number e from, free_in phase (stop_of stop).pair free, genuine, less_settled phase less)
@@ -211,7 +212,7 @@ module _ (rows : List (List ℤ)) (w : List ℤ) (budget : ℕ) (rest : List (Li
       let at_limit = subst (λ limit. IsBasisFull limit phase (pair_of i k)) j.limit full in
       (phase_as phase, stands phase (BasisFull number i k) number e from, full_in phase (pair_of i k) at_limit, free_in phase (pair_of i k) at_limit.left, less_settled phase less)
 
-  stopped_here : {upto : Option ℕ} (phase : Phase) (stop : BookStop) → IsPhaseFrom (ledger_for job) phase → IsPhaseStop job (length book.phases) (settled_of (book.phases ++ phase ∷ [])) phase stop →
+  stopped_here : {upto : Option ℕ} (phase : Phase) (stop : BookStop) → IsPhaseOf job phase → IsPhaseStop job (length book.phases) (settled_of (book.phases ++ phase ∷ [])) phase stop →
       Solves (lattice_with rows w) budget upto (Err Stopped) (stopped_at book phase stop)
   stopped_here phase stop from cause = record {
     input = h.input;

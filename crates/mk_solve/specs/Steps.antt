@@ -11,7 +11,8 @@ use Rattle.mk_move.specs.Moves.{IsGraded}
 use Rattle.mk_move.specs.MoveLists.{lattice_spanned, MoveListView, BasisView, vectors_of}
 use Rattle.mk_ledger.specs.Halts.{stop_of}
 use Rattle.mk_ledger.specs.declared.halt.OverflowStop.{OverflowStop}
-use Rattle.mk_core.specs.Phases.{ledger_for, state_of, IsPhaseFrom, IsLeft, PhaseIsOverBudget, IsBasisFull, Finishes}
+use Rattle.mk_core.specs.Phases.{state_of, IsLeft, IsBasisFull}
+use Rattle.mk_core.specs.JobPhases.{IsPhaseOf, IsUsedUp, CompletesJob}
 use Rattle.mk_core.specs.declared.phase.Job.{Job}
 use Rattle.mk_core.specs.declared.phase.Phase.{Phase}
 use Rattle.mk_saturate.specs.Saturations.{SaturationView, IsLeastLeft, IsDropped}
@@ -42,27 +43,27 @@ IsPhaseStop job number settled phase (Overflow (Pair n) stop) =
     (n ≡ number) × IsLeft phase (stop_of stop).pair × IsPairOverflow (vectors_of phase.basis.moves) (stop_of stop) × (length phase.journal < job.budget)
 IsPhaseStop job number settled phase (Overflow (Tail index) stop) = ⊥
 IsPhaseStop job number settled phase (Overflow Degree stop) = ⊥
-IsPhaseStop job number settled phase (Budget n) = (n ≡ settled) × PhaseIsOverBudget (ledger_for job) phase
+IsPhaseStop job number settled phase (Budget n) = (n ≡ settled) × IsUsedUp job phase
 IsPhaseStop job number settled phase (BasisFull n i j) = (n ≡ number) × IsBasisFull job.basis_limit phase (pair_of i j) × (length phase.journal < job.budget)
 
 -- the job's phase stopped: the book keeps it, and the stop with its cause
 pub record StopsIn (job : Job) (before after : Book) : Type 0 where
   pub phase : Phase
   pub stop : BookStop
-  pub from : IsPhaseFrom (ledger_for job) phase
+  pub from : IsPhaseOf job phase
   pub cause : IsPhaseStop job (length before.phases) (settled_of after.phases) phase stop
   pub kept : after ≡ stopped_at before phase stop
 
 -- the completed phase of a job, or why it stopped
 abbrev pub Completes : Job → Book → Result Phase RunStop → Book → Type 0
-Completes job before (Ok phase) after = Finishes (ledger_for job) (Ok phase) × (after ≡ before)
+Completes job before (Ok phase) after = CompletesJob job (Ok phase) × (after ≡ before)
 Completes job before (Err Memory) after = after ≡ before
 Completes job before (Err Stopped) after = StopsIn job before after
 
 -- the job's phase is completed: the book keeps it, and what it leaves of the moves is taken
 pub record TakesPhase (job : Job) (moves : BasisView) (before : Book) (taken : BasisView) (after : Book) : Type 0 where
   pub phase : Phase
-  pub from : IsPhaseFrom (ledger_for job) phase
+  pub from : IsPhaseOf job phase
   pub ended : IsEnded (state_of phase job.budget job.basis_limit)
   pub dropped : IsDropped moves phase taken
   pub kept : after ≡ with_phase before phase

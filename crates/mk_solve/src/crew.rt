@@ -6,7 +6,8 @@ ghost use Rattle.mk_model.specs.Lattices.{SameLattice};
 ghost use Rattle.mk_model.specs.ReducedBases.{IsReducedBasis};
 ghost use Rattle.mk_move.specs.Moves.{IsGraded};
 ghost use Rattle.mk_move.specs.MoveLists.{lattice_spanned, vectors_of};
-ghost use Rattle.mk_core.specs.Phases.{ledger_for, phase_in, Finishes, AnswersOverBudget, PhaseIsOverBudget};
+ghost use Rattle.mk_core.specs.Phases.{phase_in, AnswersOverBudget};
+ghost use Rattle.mk_core.specs.JobPhases.{CompletesJob, IsUsedUp};
 ghost use Rattle.mk_inter.specs.Tails.{IsReducedList, IsTailFault};
 ghost use Rattle.mk_minimise.specs.Minimal.{IsMinimiseFault};
 
@@ -23,8 +24,8 @@ pub trait Crew {
     fn complete(&mut self, alloc: Global, job: Job) -> Result<Completed, Stopped>
         requires start { length job.start.moves ≤ job.basis_limit }
         requires limit { job.basis_limit ≤ 65536 }
-        ensures answer { Finishes (ledger_for job) result }
-        ensures over_budget { IfSome (phase_in result) (λ phase. AnswersOverBudget result ↔ PhaseIsOverBudget (ledger_for job) phase) };
+        ensures answer { CompletesJob job result }
+        ensures over_budget { IfSome (phase_in result) (λ phase. AnswersOverBudget result ↔ IsUsedUp job phase) };
 
     /// The reduced basis of what a saturated one spans, as `reduce_tails` makes it.
     fn reduce_tails(

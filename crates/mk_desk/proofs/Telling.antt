@@ -1,5 +1,5 @@
 -- Changes of a folder that tells what it holds, one after another, and the faults behind them.
-use Rattle.std.proofs.Common.{◌≡◌, ℕ, ◌+◌, List, ◌++◌, take, drop, Option, Some, None, Result, IsErrOf, arith, ap, sym, subst, ◌∙◌, append_assoc}
+use Rattle.std.proofs.Common.{◌≡◌, ℕ, ◌+◌, List, ◌++◌, take, drop, Option, Some, None, Result, IsErrOf, inl, inr, arith, ap, sym, subst, ◌∙◌, append_assoc}
 use Rattle.std.proofs.Math.Seq.{take-add}
 use Rattle.mk_desk.specs.Folders.{Desk, State, HasCause, OnlyFaultsRose, WhereTold, Rose, said}
 use Rattle.mk_desk.specs.declared.folder.DeskFault.{DeskFault}
@@ -39,6 +39,15 @@ cause_from a b c result same cause = record {
   failed = λ failed. subst (λ n. Rose n c.faults) same (cause.failed failed);
   quiet = λ not_failed. cause.quiet not_failed ∙ same;
 }
+
+-- no count of faults rises to 0
+pub none_rose : (a b : ℕ) → b ≡ 0 → Rose a b → ⊥
+none_rose a b none (inl rose) = omega (arith, none, rose)
+none_rose a b none (inr last) = cc
+
+-- no call fails where no fault is counted
+pub never_failed : {T E : Type 0} {failure : E} (a b : State) (result : Result T E) → b.faults ≡ 0 → HasCause failure a b result → IsErrOf result failure → ⊥
+never_failed a b result none cause failed = none_rose a.faults b.faults none (cause.failed failed)
 
 -- an answer that is not that failure, where no fault was counted
 pub no_failure : {T E : Type 0} {failure : E} (a b : State) (result : Result T E) → b.faults ≡ a.faults → (IsErrOf result failure → ⊥) → HasCause failure a b result

@@ -45,6 +45,10 @@ pub record HasCause {T E : Type 0} (failure : E) (before after : State) (result 
   pub failed : IsErrOf result failure → Rose before.faults after.faults
   pub quiet : (IsErrOf result failure → ⊥) → after.faults ≡ before.faults
 
+-- a kind of folder each of which counts no fault, ever
+abbrev pub CountsNoFault : {F : Type 0} → (F → State) → Type 0
+CountsNoFault {F} state = (folder : F) → (state folder).faults ≡ 0
+
 -- All but the count of faults is as before.
 abbrev pub OnlyFaultsRose : State → State → Type 0
 OnlyFaultsRose before after = after ≡ record before { faults = after.faults }

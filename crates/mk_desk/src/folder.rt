@@ -1,7 +1,8 @@
 //! A folder of files with two channels: all that a run reaches outside itself.
 
-ghost use Rattle.std.specs.Prelude.{◌≡◌, ◌<◌, ◌≤◌, ℕ, true, false, length, IfOk, is_ok};
+ghost use Rattle.std.specs.Prelude.{◌≡◌, ◌<◌, ◌≤◌, ℕ, true, false, length, IfOk, IsErrOf, Result, is_ok};
 ghost use Rattle.std.specs.Result.{result_ok};
+ghost use Rattle.mk_desk.specs.Folders.{State, HasCause, CountsNoFault, Rose};
 ghost use Rattle.mk_desk.specs.declared.folder.Found.TheVariants.{Here};
 
 use thiserror::Error;
@@ -42,6 +43,10 @@ pub trait Folder {
 
     /// Whether a file is being made, what the last `start_read` answered, how many bytes were given since, and the faults.
     ghost state: { Self → State };
+
+    /// Whether a file is being made.
+    fn is_making(&self) -> bool
+        ensures { result ≡ (state self.now).making };
 
     /// Begins to read a file, and ends a reading that went on.
     fn start_read(&mut self, name: &str) -> Result<Found, DeskFault>
@@ -90,3 +95,11 @@ pub trait Folder {
         ensures cause { HasCause DeskFault.Failed (state self.old) (state self.new) result }
         ensures told { WhereTold (told self.old) (told self.new) (Says channel piece.now result) };
 }
+
+/// Over a folder whose count of faults is 0 always, no call fails: each failure is answered only where the count rose, and no
+/// count rises to 0. The answer's value is a number here, and may be any.
+pub fn no_fault_rose_to_none<F: Folder>()
+    ensures rose { (before after : State) → after.faults ≡ 0 → Rose before.faults after.faults → ⊥ }
+    ensures never { CountsNoFault F.state → (before after : F) → (result : Result ℕ DeskFault)
+        → HasCause DeskFault.Failed (F.state before) (F.state after) result → IsErrOf result DeskFault.Failed → ⊥ }
+{}

@@ -9,7 +9,7 @@ mod real_folder;
 mod sure_folder;
 mod transfer;
 
-pub use folder::{Channel, DeskFault, Folder, Found};
+pub use folder::{Channel, DeskFault, Folder, Found, no_fault_rose_to_none};
 pub use memory_folder::MemoryFolder;
 pub use real_folder::RealFolder;
 pub use sure_folder::{SureFolder, sure_folder_has_no_fault};

@@ -13,8 +13,8 @@ use std::collections::BTreeMap;
 
 /// Files and two channels in memory, some of whose calls fail. It tells everything.
 ///
-/// A call moves no more bytes than its chunk, and the n-th call fails, counted from 1 over all six methods, where its list of
-/// failing calls names n.
+/// A call moves no more bytes than its chunk, and the n-th call fails, counted from 1 over all six methods that may fail, where
+/// its list of failing calls names n.
 #[derive(Drop)]
 pub struct MemoryFolder {
     kept: SureFolder,
@@ -94,6 +94,13 @@ impl MemoryFolder {
         self.kept.len()
     }
 
+    /// The name of the file being made, or last made.
+    pub fn made_name(&self) -> &str
+        ensures { result.now ≡ (memory_desk self.now).made_name }
+    {
+        self.kept.made_name()
+    }
+
     /// The bytes of the file being made, or last made.
     pub fn made(&self) -> &[u8]
         ensures { result.now ≡ (memory_desk self.now).made }
@@ -134,6 +141,12 @@ impl Folder for MemoryFolder {
     ghost told = { λ folder. Some (memory_desk folder) };
 
     ghost state = { memory_state };
+
+    fn is_making(&self) -> bool
+        ensures { result ≡ (memory_state self.now).making }
+    {
+        self.kept.is_making()
+    }
 
     fn start_read(&mut self, name: &str) -> Result<Found, DeskFault>
         ensures state { memory_state self.new
@@ -260,9 +273,12 @@ mod tests {
     fn named_call_fails_alone(rt: HostRuntime) -> Result<(), Fail> {
         let failing = vec![in rt.alloc(); 3]?;
         let mut folder = MemoryFolder::new(rt.alloc(), five(rt.alloc())?, failing, 2);
+        assert!(rt; !folder.is_making());
         folder.start_write("five")?;
         assert_eq!(rt; folder.write(b"ab")?, 2);
         assert_eq!(rt; folder.write(b"c"), Err(DeskFault::Failed));
+        assert!(rt; folder.is_making());
+        assert_eq!(rt; folder.made_name(), "five");
         assert_eq!(rt; folder.made(), b"ab".as_slice());
         assert_eq!(rt; folder.faults(), 1);
         assert_eq!(rt; folder.write(b"c")?, 1);

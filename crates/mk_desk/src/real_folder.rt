@@ -56,6 +56,10 @@ impl<R: Files + Print + Eprint> Folder for RealFolder<'_, R> {
       faults = folder.faults.count;
     } };
 
+    fn is_making(&self) -> bool {
+        self.making.is_some()
+    }
+
     fn start_read(&mut self, name: &str) -> Result<Found, DeskFault> {
         self.reading = None;
         self.found = None;

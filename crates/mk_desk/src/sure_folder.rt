@@ -1,7 +1,7 @@
 //! A folder in memory whose calls never fail.
 
 ghost use Rattle.std.specs.Prelude.{◌≡◌, ◌≤◌, vec_len};
-ghost use Rattle.mk_desk.specs.Folders.{Rose};
+ghost use Rattle.mk_desk.specs.Folders.{CountsNoFault, Rose};
 
 use crate::folder::{Channel, DeskFault, Folder, Found};
 use std::alloc::{AllocError, Global};
@@ -100,6 +100,13 @@ impl SureFolder {
         self.files.len()
     }
 
+    /// The name of the file being made, or last made.
+    pub fn made_name(&self) -> &str
+        ensures { result.now ≡ (sure_desk self.now).made_name }
+    {
+        self.made_name.as_str()
+    }
+
     /// The bytes of the file being made, or last made.
     pub fn made(&self) -> &[u8]
         ensures { result.now ≡ (sure_desk self.now).made }
@@ -125,6 +132,10 @@ impl Folder for SureFolder {
     ghost told = { λ folder. Some (sure_desk folder) };
 
     ghost state = { sure_state };
+
+    fn is_making(&self) -> bool {
+        self.making
+    }
 
     fn start_read(&mut self, name: &str) -> Result<Found, DeskFault> {
         self.found = None;
@@ -178,7 +189,7 @@ impl Folder for SureFolder {
 
 /// A folder in memory of this kind counts no fault, ever. So no count of its faults rises, and over it nothing fails.
 pub fn sure_folder_has_no_fault()
-    ensures none { (folder : SureFolder) → (⟦<SureFolder as Folder>⟧.state folder).faults ≡ 0 }
+    ensures none { CountsNoFault ⟦<SureFolder as Folder>⟧.state }
     ensures never { (before after : SureFolder)
         → Rose (⟦<SureFolder as Folder>⟧.state before).faults (⟦<SureFolder as Folder>⟧.state after).faults → ⊥ }
 {}

@@ -17,3 +17,4 @@ pub mod MaskTests
 pub mod MaskOrders
 pub mod Chains
 pub mod Takings
+pub mod Copies

@@ -23,6 +23,12 @@ pub record AreBits (y : List ℤ) (bits : ℕ) : Type 0 where
   pub within : (c : ℕ) → bit_at bits c ≡ 1 → c < length y
   pub covers : (c : ℕ) → bit_at bits c ≡ 0 → entry y c ≡ pos 0
 
+-- rows of as many columns, the same but in the columns of the bits
+pub record AreSameBut (x y : List ℤ) (bits : ℕ) : Type 0 where
+  pub columns : length x ≡ length y
+  pub within : (c : ℕ) → bit_at bits c ≡ 1 → c < length x
+  pub same : (c : ℕ) → bit_at bits c ≡ 0 → entry x c ≡ entry y c
+
 -- What is known of a row in which an entry of a column changes, before and after: the bits of the column are those of the
 -- entry, and the others stay. Its entries are in range only if they were, and the new one is.
 pub record IsWithEntry (before : Taken) (column : ℕ) (value : ℤ) (after : Taken) : Type 0 where

@@ -5,7 +5,7 @@ ghost use Rattle.std.specs.Int.{bit_at};
 ghost use Rattle.mk_model.specs.Vectors.{IsEntry, positive_part, weight, zeros};
 ghost use Rattle.mk_move.specs.Masks.{AreMasks};
 ghost use Rattle.mk_move.specs.Steps.{IsOverflow, minus_times};
-ghost use Rattle.mk_move.specs.InPlace.{TakesOffInPlace, IsWide, AreBits, IsWithEntry, LeavesSome};
+ghost use Rattle.mk_move.specs.InPlace.{TakesOffInPlace, IsWide, AreBits, AreSameBut, IsWithEntry, LeavesSome};
 
 use crate::grading::Grading;
 use crate::masks::{first_bit, masks_of};
@@ -23,9 +23,13 @@ impl Move {
         requires { length m.now.entries ≡ length self.old.entries }
         ensures { self.new ≡ m.now }
     {
-        self.entries
-            .as_mut_slice()
-            .copy_from_slice(m.entries.as_slice());
+        let right = m.entries.as_slice();
+        let row = self.entries.as_mut_slice();
+        if right.len() <= 64 {
+            copy_at(row, right, (self.plus | self.minus) | (m.plus | m.minus));
+        } else {
+            row.copy_from_slice(right);
+        }
         self.weight = m.weight;
         self.plus = m.plus;
         self.minus = m.minus;
@@ -148,6 +152,20 @@ impl Move {
     }
 }
 
+/// Copies the entries of the columns of the bits from the other row. In all other columns they are the same.
+fn copy_at(row: &mut [Entry], right: &[Entry], bits: u64)
+    requires same { AreSameBut row.old right.now bits }
+    requires right { All IsEntry right.now }
+    ensures { row.new ≡ right.now }
+{
+    let mut left = bits;
+    while left != 0 {
+        let (column, others) = first_bit(left);
+        row[column as usize] = right[column as usize];
+        left = others;
+    }
+}
+
 /// The masks of both parts of a row, and whether its entries are known to be in range.
 #[derive(Clone, Copy)]
 struct Taken {
@@ -203,6 +221,37 @@ fn is_entry(value: Entry) -> bool
 /// Takes so many times the other off a row of at most 64 columns, with these masks, and tells what is known of it then.
 /// The other has entries at its bits alone.
 fn take_off_at(
+    row: &mut [Entry],
+    plus: u64,
+    minus: u64,
+    times: Entry,
+    right: &[Entry],
+    bits: u64,
+) -> Taken
+    requires columns { length row.old ≡ length right.now }
+    requires few { length row.old ≤ 64 }
+    requires left { All IsWide row.old }
+    requires masks { AreMasks row.old plus minus }
+    requires times { unsigned_abs times < 2 ^ 45 }
+    requires right { All IsEntry right.now }
+    requires bits { AreBits right.now bits }
+    ensures entries { row.new ≡ minus_times row.old times right.now }
+    ensures masks { AreMasks row.new result.plus result.minus }
+    ensures range { IsTrue result.in_range → All IsEntry row.old → All IsEntry row.new }
+{
+    // Compiled for each of the usual numbers, a step doesn't multiply.
+    if times == 1 {
+        return take_off_each(row, plus, minus, 1, right, bits);
+    }
+    if times == -1 {
+        return take_off_each(row, plus, minus, -1, right, bits);
+    }
+    take_off_each(row, plus, minus, times, right, bits)
+}
+
+/// As `take_off_at`, bit after bit.
+#[inline(always)]
+fn take_off_each(
     row: &mut [Entry],
     plus: u64,
     minus: u64,

@@ -7,8 +7,8 @@ use Rattle.mk_move.specs.InPlace.{IsWide}
 use Rattle.mk_move.specs.Steps.{minus_times}
 use Rattle.mk_move.proofs.Entries.{as_entry, entry_read}
 use Rattle.mk_move.proofs.Takings.{IsTaking, taking_begins, taking_goes_on, taken_entries, taken_range, masks_by_bits, wide_fits}
-use Rattle.mk_move.proofs.in_place.take_off_at.Goals as goal
-use Rattle.mk_move.proofs.in_place.take_off_at.Goals.{After-first_bit-column}
+use Rattle.mk_move.proofs.in_place.take_off_each.Goals as goal
+use Rattle.mk_move.proofs.in_place.take_off_each.Goals.{After-first_bit-column}
 
 pub loop-left-init : goal.loop-left-init
 loop-left-init c = taking_begins c.args.row.now c.args.right.now (as_entry c.args.times) c.args.bits c.args.plus c.args.minus c.requires.few c.ranges.bits.fits c.requires.bits c.requires.masks

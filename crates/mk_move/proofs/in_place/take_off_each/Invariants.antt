@@ -1,5 +1,5 @@
 use Rattle.mk_move.proofs.Takings.{IsTaking}
-use Rattle.mk_move.proofs.in_place.take_off_at.Given as goal
+use Rattle.mk_move.proofs.in_place.take_off_each.Given as goal
 
 abbrev pub invariant-loop-left : goal.invariant-loop-left
 invariant-loop-left l = IsTaking l.initial.row l.right l.times l.left l.row l.taken

@@ -1,24 +1,26 @@
 -- The masks of leads beside their moves: how they grow by a move, and which third moves they leave out.
-use Rattle.std.proofs.Common.{◌≡◌, ◌≢◌, ◌⊎◌, inl, inr, ℕ, ◌+◌, ◌<◌, ◌≤◌, ◌^◌, List, [], ◌∷◌, ◌++◌, length, get_or, arith, sym, ap, ◌∙◌, ℤ, pos}
+use Rattle.std.proofs.Common.{◌≡◌, ◌≢◌, ◌⊎◌, inl, inr, ℕ, ◌+◌, ◌<◌, ◌≤◌, ◌^◌, Bool, true, false, IsTrue, List, [], ◌∷◌, ◌++◌, length, get_or, All, arith, sym, ap, ◌∙◌, ℤ, pos, ◌≤ℤ◌}
 use mir.Val.{Fits}
 use Rattle.std.specs.Int.{w64, bit_not}
 use Rattle.std.specs.Int.RustNames.{bit_and, bit_or}
-use Rattle.std.proofs.lemmas.Bool.{cases_lt}
-use Rattle.std.proofs.lemmas.List.{length-append, length-map, map-append, get_or-map, get_or_append_left}
+use Rattle.std.proofs.lemmas.Bool.{cases_lt, false≢true}
+use Rattle.std.proofs.lemmas.Int.{ints, clamps}
+use Rattle.std.proofs.lemmas.List.{length-append, length-map, map-append, get_or-map, get_or_append_left, get_or_past}
 use Rattle.std.proofs.lemmas.Nat.{or_lt}
 use Rattle.std.proofs.Math.Seq.{get_or-append_seam}
 use Rattle.mk_model.specs.CoreStates.{move_at}
 use Rattle.mk_model.specs.Orders.{lead}
-use Rattle.mk_model.specs.Reductions.{lcm}
-use Rattle.mk_model.proofs.VectorAlgebra.{length-positive_part}
+use Rattle.mk_model.specs.Reductions.{lcm, Divides}
+use Rattle.mk_model.specs.Vectors.{entry}
+use Rattle.mk_model.proofs.VectorAlgebra.{entry-positive_part, length-positive_part}
 use Rattle.mk_model.proofs.Divisors.{length-lcm}
 use Rattle.mk_move.specs.Chains.{DividesBetween}
-use Rattle.mk_move.specs.Masks.{IsMask}
+use Rattle.mk_move.specs.Masks.{IsMask, IsAtMostOne, IsTold}
 use Rattle.mk_move.specs.Moves.{Weighed}
-use Rattle.mk_move.specs.MoveLists.{BasisView, IsBasis, AreLeadMasks, vectors_of}
-use Rattle.mk_move.proofs.Chains.{mask_of_lcm}
-use Rattle.mk_move.proofs.MaskTests.{apart_disjoint, not_dividing}
-use Rattle.mk_move.proofs.Divisions.{part_of_nonnegative}
+use Rattle.mk_move.specs.MoveLists.{BasisView, IsBasis, AreLeadMasks, AreTold, vectors_of}
+use Rattle.mk_move.proofs.Chains.{lcm_nonnegative, mask_of_lcm}
+use Rattle.mk_move.proofs.MaskTests.{apart_disjoint, not_dividing, told_divides}
+use Rattle.mk_move.proofs.Divisions.{part_of_past, part_of_nonnegative}
 use Rattle.mk_move.specs.declared.side.Side.TheVariants.{Plus}
 use Rattle.mk_model.specs.Pairs.{AreDisjoint}
 
@@ -53,6 +55,32 @@ lead_masks_more moves masks m mask h g = record {
         let move_is : move_at (vectors_of (moves ++ m ∷ [])) k ≡ m.entries = ap (move_at (vectors_of (moves ++ m ∷ []))) here ∙ move_behind moves m in
         rw (move_is, mask_is) g
 
+-- no entry of the lead is above 1 where none of the move is
+pub squarefree_lead : (x : List ℤ) → All IsAtMostOne x → (c : ℕ) → IsAtMostOne (entry (lead x) c)
+squarefree_lead x h c = at (cases_lt c (length x))
+  where
+    at : (c < length x) ⊎ (length x ≤ c) → IsAtMostOne (entry (lead x) c)
+    at (inl l) = let few : entry x c ≤ℤ pos 1 = h c (pos 0) l in omega (arith, ints, clamps, entry-positive_part x c, few)
+    at (inr l) = omega (arith, ints, part_of_past Plus x c l)
+
+pub told_more : (moves : List Weighed) (flags : List Bool) (m : Weighed) (flag : Bool) → AreTold moves flags → (IsTrue flag → IsTold (lead m.entries)) → AreTold (moves ++ m ∷ []) (flags ++ flag ∷ [])
+told_more moves flags m flag h g = record {
+  count = omega (arith, h.count, length-append flags (flag ∷ []), length-append moves (m ∷ []));
+  each = λ k set. at k (cases_lt k (length moves)) (cases_lt k (length moves + 1)) set;
+}
+  where
+    at : (k : ℕ) → (k < length moves) ⊎ (length moves ≤ k) → (k < length moves + 1) ⊎ (length moves + 1 ≤ k) → get_or (flags ++ flag ∷ []) k false ≡ true → IsTold (lead (move_at (vectors_of (moves ++ m ∷ [])) k))
+    at k (inl l) _ set =
+        rw (move_before moves m k l) (h.each k (sym (get_or_append_left flags (flag ∷ []) false k (omega (arith, l, h.count))) ∙ set))
+    at k (inr l) (inl few) set =
+        let here : k ≡ length moves = omega (arith, l, few) in
+        let flag_is : get_or (flags ++ flag ∷ []) k false ≡ flag = ap (λ n. get_or (flags ++ flag ∷ []) n false) (here ∙ sym h.count) ∙ get_or-append_seam flags flag [] false in
+        let move_is : move_at (vectors_of (moves ++ m ∷ [])) k ≡ m.entries = ap (move_at (vectors_of (moves ++ m ∷ []))) here ∙ move_behind moves m in
+        rw move_is (g (sym flag_is ∙ set))
+    at k (inr _) (inr l) set =
+        let past = get_or_past (flags ++ flag ∷ []) k false (omega (arith, l, h.count, length-append flags (flag ∷ []))) in
+        absurd (false≢true (sym past ∙ set))
+
 -- ---- third moves that the masks leave out
 -- the moves of a basis have as many columns as its list
 columns_at : (basis : BasisView) (k : ℕ) → IsBasis basis → k < length basis.moves → length (move_at (vectors_of basis.moves) k) ≡ length basis.priority
@@ -62,31 +90,45 @@ columns_at basis k h l =
     nothing : Weighed
     nothing = record { entries = []; weight = pos 0 }
 
--- a mask that isn't within those of two others: the lead doesn't divide the least common multiple of the two
-pub not_between : (basis : BasisView) (masks : List ℕ) (i j k : ℕ) → IsBasis basis → AreLeadMasks basis.moves masks → i < length basis.moves → j < length basis.moves → k < length basis.moves →
-    ((n : ℕ) → Fits w64 (get_or masks n 0)) →
-    bit_and (get_or masks k 0) (bit_not w64 (bit_or (get_or masks i 0) (get_or masks j 0))) ≢ 0 → DividesBetween (vectors_of basis.moves) i j k → ⊥
-not_between basis masks i j k h g first second third fits some =
-    not_dividing v (lcm a b) (get_or masks k 0) (bit_or (get_or masks i 0) (get_or masks j 0)) (bound k) (or_lt 64 (get_or masks i 0) (get_or masks j 0) (bound i) (bound j))
-    (omega (arith, lengths, length-lcm a b)) (g.each k third) (mask_of_lcm a b _ _ (omega (arith, lengths)) (g.each i first) (g.each j second)) some
-  where
-    bound : (n : ℕ) → get_or masks n 0 < 2 ^ 64
-    bound n = omega (arith, fits n)
+-- a third lead beside two others, with their masks
+module _ (basis : BasisView) (masks : List ℕ) (i j k : ℕ) (h : IsBasis basis) (g : AreLeadMasks basis.moves masks) (first : i < length basis.moves) (second : j < length basis.moves) (third : k < length basis.moves)
+    (fits : (n : ℕ) → Fits w64 (get_or masks n 0)) where
+  bound : (n : ℕ) → get_or masks n 0 < 2 ^ 64
+  bound n = omega (arith, fits n)
 
-    a : List ℤ
-    a = lead (move_at (vectors_of basis.moves) i)
+  abbrev a : List ℤ
+  a = lead (move_at (vectors_of basis.moves) i)
 
-    b : List ℤ
-    b = lead (move_at (vectors_of basis.moves) j)
+  abbrev b : List ℤ
+  b = lead (move_at (vectors_of basis.moves) j)
 
-    v : List ℤ
-    v = lead (move_at (vectors_of basis.moves) k)
+  abbrev v : List ℤ
+  v = lead (move_at (vectors_of basis.moves) k)
 
-    lead_columns : (c : ℕ) → c < length basis.moves → length (lead (move_at (vectors_of basis.moves) c)) ≡ length basis.priority
-    lead_columns c l = length-positive_part (move_at (vectors_of basis.moves) c) ∙ columns_at basis c h l
+  lead_columns : (c : ℕ) → c < length basis.moves → length (lead (move_at (vectors_of basis.moves) c)) ≡ length basis.priority
+  lead_columns c l = length-positive_part (move_at (vectors_of basis.moves) c) ∙ columns_at basis c h l
 
-    lengths : (length a ≡ length basis.priority) × (length b ≡ length basis.priority) × (length v ≡ length basis.priority)
-    lengths = (lead_columns i first, lead_columns j second, lead_columns k third)
+  lengths : (length a ≡ length basis.priority) × (length b ≡ length basis.priority) × (length v ≡ length basis.priority)
+  lengths = (lead_columns i first, lead_columns j second, lead_columns k third)
+
+  as_many : length v ≡ length (lcm a b)
+  as_many = omega (arith, lengths, length-lcm a b)
+
+  room : bit_or (get_or masks i 0) (get_or masks j 0) < 2 ^ 64
+  room = or_lt 64 (get_or masks i 0) (get_or masks j 0) (bound i) (bound j)
+
+  mask_is : IsMask (lcm a b) (bit_or (get_or masks i 0) (get_or masks j 0))
+  mask_is = mask_of_lcm a b _ _ (omega (arith, lengths)) (g.each i first) (g.each j second)
+
+  -- a mask that isn't within those of two others: the lead doesn't divide the least common multiple of the two
+  pub not_between : bit_and (get_or masks k 0) (bit_not w64 (bit_or (get_or masks i 0) (get_or masks j 0))) ≢ 0 → DividesBetween (vectors_of basis.moves) i j k → ⊥
+  not_between some = not_dividing v (lcm a b) (get_or masks k 0) (bit_or (get_or masks i 0) (get_or masks j 0)) (bound k) room as_many (g.each k third) mask_is some
+
+  -- a mask that is, and tells its lead: the lead divides it
+  pub told_between : IsTold v → bit_and (get_or masks k 0) (bit_not w64 (bit_or (get_or masks i 0) (get_or masks j 0))) ≡ 0 → DividesBetween (vectors_of basis.moves) i j k
+  told_between told none =
+      told_divides v (lcm a b) (get_or masks k 0) (bit_or (get_or masks i 0) (get_or masks j 0)) room as_many told
+      (lcm_nonnegative (move_at (vectors_of basis.moves) i) (move_at (vectors_of basis.moves) j)) (g.each k third) mask_is none
 
 -- masks without a bit in common: the leads are disjoint
 pub disjoint_by_masks : (basis : BasisView) (masks : List ℕ) (i j : ℕ) → IsBasis basis → AreLeadMasks basis.moves masks → i < length basis.moves → j < length basis.moves →
@@ -97,3 +139,12 @@ disjoint_by_masks basis masks i j h g first second none =
     apart_disjoint (lead a) (lead b) (get_or masks i 0) (get_or masks j 0)
     (length-positive_part a ∙ columns_at basis i h first ∙ sym (length-positive_part b ∙ columns_at basis j h second))
     (part_of_nonnegative Plus a) (part_of_nonnegative Plus b) (g.each i first) (g.each j second) none
+
+-- a mask that isn't within another: the lead doesn't divide the other
+pub not_dividing_by_masks : (basis : BasisView) (masks : List ℕ) (k j : ℕ) → IsBasis basis → AreLeadMasks basis.moves masks → k < length basis.moves → j < length basis.moves → ((n : ℕ) → Fits w64 (get_or masks n 0)) →
+    bit_and (get_or masks k 0) (bit_not w64 (get_or masks j 0)) ≢ 0 → Divides (lead (move_at (vectors_of basis.moves) k)) (lead (move_at (vectors_of basis.moves) j)) → ⊥
+not_dividing_by_masks basis masks k j h g first second fits some =
+    let v = move_at (vectors_of basis.moves) k in
+    let m = move_at (vectors_of basis.moves) j in
+    not_dividing (lead v) (lead m) (get_or masks k 0) (get_or masks j 0) (omega (arith, fits k)) (omega (arith, fits j))
+    (length-positive_part v ∙ columns_at basis k h first ∙ sym (length-positive_part m ∙ columns_at basis j h second)) (g.each k first) (g.each j second) some

@@ -2,14 +2,16 @@
 use Rattle.std.proofs.Common.{◌≡◌, ◌≢◌, ◌⊎◌, inl, inr, ℕ, ◌/◌, ◌^◌, ◌<◌, ◌≤◌, min, List, length, arith, sym, ap, ◌∙◌, subst, ℤ, pos, ◌<ℤ◌, ◌≤ℤ◌}
 use Rattle.std.specs.Int.{bit_at, w64, bit_not}
 use Rattle.std.specs.Int.RustNames.{bit_and}
+use Rattle.std.proofs.lemmas.Bool.{cases_lt}
 use Rattle.std.proofs.lemmas.Int.{ints, by_lt_z}
+use Rattle.std.proofs.lemmas.List.{get_or_past}
 use Rattle.std.proofs.lemmas.Nat.{and_le_l}
 use Rattle.std.proofs.lemmas.Nat.Bits.{bit_at-zero, bit_at_and, bit_at_not, bit_at-lt, bit_at-trailing_zeros}
 use Rattle.std.proofs.Math.Nat.{div-one}
 use Rattle.mk_model.specs.Vectors.{entry}
 use Rattle.mk_model.specs.Reductions.{Divides}
 use Rattle.mk_model.specs.Pairs.{AreDisjoint}
-use Rattle.mk_move.specs.Masks.{block_width, block_of, HasPositive, IsMask}
+use Rattle.mk_move.specs.Masks.{block_width, block_of, HasPositive, IsMask, IsTold}
 
 -- a number that isn't 0 has a bit that is set
 some_bit : (n : ℕ) → n < 2 ^ 64 → n ≢ 0 → (k : ℕ) × (k < 64) × (bit_at n k ≡ 1)
@@ -84,3 +86,29 @@ not_apart x y left right fits l few h g some d = go (some_bit (bit_and left righ
     go (k, low, set) =
         let bits = in_both left right k set in
         not_disjoint_at x y k l few (h.covered k bits.0) (g.covered k bits.1) d
+
+-- ---- a mask that tells the whole of a vector
+bit_in_second : (inner outer k : ℕ) → outer < 2 ^ 64 → k < 64 → bit_and inner (bit_not w64 outer) ≡ 0 → bit_at inner k ≡ 1 → bit_at outer k ≡ 1
+bit_in_second inner outer k room low none set =
+    let both : min (bit_at inner k) (bit_at (bit_not w64 outer) k) ≡ 0 = sym (bit_at_and inner (bit_not w64 outer) k) ∙ ap (λ n. bit_at n k) none ∙ bit_at-zero k in
+    omega (arith, both, set, bit_at_not w64 outer k room low, bit_at-lt outer k)
+
+-- it divides each nonnegative vector whose mask it lies within
+pub told_divides : (x y : List ℤ) (inner outer : ℕ) → outer < 2 ^ 64 → length x ≡ length y → IsTold x → ((c : ℕ) → pos 0 ≤ℤ entry y c) → IsMask x inner → IsMask y outer → bit_and inner (bit_not w64 outer) ≡ 0 → Divides x y
+told_divides x y inner outer room l told nonnegative h g none = record { entries = λ c. by_lt_z (pos 0) (entry x c) (λ p. at c p) (λ q. omega (arith, ints, q, nonnegative c)) }
+  where
+    here : (c : ℕ) → pos 0 <ℤ entry x c → HasPositive y c
+    here c p =
+        let set : bit_at inner c ≡ 1 = ap (bit_at inner) (sym (one_column x c told.few)) ∙ h.covers c p in
+        g.covered c (bit_in_second inner outer c room (omega (arith, inside c p (cases_lt c (length x)), told.few)) none set)
+      where
+        inside : (c : ℕ) → pos 0 <ℤ entry x c → (c < length x) ⊎ (length x ≤ c) → c < length x
+        inside c p (inl l) = l
+        inside c p (inr l) = let z = get_or_past x c (pos 0) l in absurd (omega (arith, ints))
+
+    at : (c : ℕ) → pos 0 <ℤ entry x c → entry x c ≤ℤ entry y c
+    at c p =
+        let there = here c p in
+        let column_is : there.column ≡ c = sym (one_column y there.column (omega (arith, l, told.few))) ∙ there.there in
+        let positive : pos 0 <ℤ entry y c = subst (λ (n : ℕ). pos 0 <ℤ entry y n) column_is there.positive in
+        omega (arith, ints, positive, told.squarefree c)

@@ -1,5 +1,5 @@
 -- Masks of vectors: a bit of a word for each block of columns, in their order.
-use Rattle.std.specs.Prelude.{◌≡◌, ℕ, ◌+◌, ◌/◌, max, List, length, ℤ, pos, ◌<ℤ◌}
+use Rattle.std.specs.Prelude.{◌≡◌, ℕ, ◌+◌, ◌/◌, ◌≤◌, max, List, length, ℤ, pos, ◌<ℤ◌, ◌≤ℤ◌}
 use Rattle.std.specs.Int.{bit_at}
 use Rattle.mk_model.specs.Vectors.{entry, positive_part, negative_part}
 
@@ -26,3 +26,12 @@ pub record IsMask (x : List ℤ) (mask : ℕ) : Type 0 where
 pub record AreMasks (x : List ℤ) (plus minus : ℕ) : Type 0 where
   pub positive : IsMask (positive_part x) plus
   pub negative : IsMask (negative_part x) minus
+
+-- an entry of a squarefree vector
+abbrev pub IsAtMostOne : ℤ → Type 0
+IsAtMostOne a = a ≤ℤ pos 1
+
+-- the mask tells the whole of a nonnegative vector: a block is one column, and no entry is above 1
+pub record IsTold (x : List ℤ) : Type 0 where
+  pub few : length x ≤ 64
+  pub squarefree : (c : ℕ) → IsAtMostOne (entry x c)

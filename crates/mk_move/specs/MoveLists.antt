@@ -1,10 +1,10 @@
 -- Lists of moves: by themselves, and with the grading and the priority list that they belong to.
-use Rattle.std.specs.Prelude.{◌≡◌, ℕ, ◌<◌, ◌^◌, List, length, map, get_or, All, ℤ, Option, None, Some}
+use Rattle.std.specs.Prelude.{◌≡◌, ℕ, ◌<◌, ◌^◌, Bool, true, false, List, length, map, get_or, All, ℤ, Option, None, Some}
 use Rattle.mk_model.specs.Lattices.{Lattice, lattice_of}
 use Rattle.mk_model.specs.CoreStates.{move_at}
 use Rattle.mk_model.specs.Orders.{IsOriented, lead}
 use Rattle.mk_move.specs.Gradings.{AreWeights}
-use Rattle.mk_move.specs.Masks.{IsMask}
+use Rattle.mk_move.specs.Masks.{IsMask, IsTold}
 use Rattle.mk_move.specs.Moves.{Weighed, IsGraded}
 use Rattle.mk_move.specs.Priorities.{IsPriority}
 
@@ -41,6 +41,11 @@ vectors_of moves = map (λ m. m.entries) moves
 pub record AreLeadMasks (moves : List Weighed) (masks : List ℕ) : Type 0 where
   pub count : length masks ≡ length moves
   pub each : (k : ℕ) → k < length moves → IsMask (lead (move_at (vectors_of moves) k)) (get_or masks k 0)
+
+-- a flag for each move, in their order: where it is set, its mask tells the lead
+pub record AreTold (moves : List Weighed) (flags : List Bool) : Type 0 where
+  pub count : length flags ≡ length moves
+  pub each : (k : ℕ) → get_or flags k false ≡ true → IsTold (lead (move_at (vectors_of moves) k))
 
 -- the vector of a move, where there is one
 abbrev pub vector_of : Option Weighed → Option (List ℤ)

@@ -1,11 +1,15 @@
-ghost use Rattle.std.specs.Prelude.{◌≡◌, ◌+◌, ◌^◌, ◌<◌, [], ◌∷◌, ◌++◌, length, IfOk, IfErr, OnOk, OnErr, slice_get};
-ghost use Rattle.mk_move.specs.MoveLists.{BelongsTo, IsBasis, AreLeadMasks};
+ghost use Rattle.std.specs.Prelude.{◌≡◌, ◌+◌, ◌^◌, ◌<◌, [], ◌∷◌, ◌++◌, length, IfOk, IfErr, OnOk, OnErr, slice_get, IsTrue, All};
+ghost use Rattle.mk_model.specs.Vectors.{IsEntry};
+ghost use Rattle.mk_model.specs.CoreStates.{move_at};
+ghost use Rattle.mk_model.specs.Orders.{lead};
+ghost use Rattle.mk_move.specs.Masks.{IsTold, IsAtMostOne};
+ghost use Rattle.mk_move.specs.MoveLists.{BelongsTo, IsBasis, AreLeadMasks, AreTold, vectors_of};
 
 use crate::grading::Grading;
 use crate::moves::Move;
 use crate::priority::Priority;
 use crate::side::Side;
-use mk_model::NoMemory;
+use mk_model::{Entry, NoMemory};
 use std::alloc::Global;
 use std::marker::Model;
 
@@ -27,19 +31,20 @@ impl From<PushFault> for NoMemory {
 pub struct Basis {
     moves: Vec<Move>,
     lead_masks: Vec<u64>,
+    told: Vec<bool>,
     priority: Priority,
     grading: Grading,
 }
 
 impl Model for Basis {
-    ghost use Rattle.mk_move.specs.MoveLists.{BasisView, IsBasis, AreLeadMasks};
+    ghost use Rattle.mk_move.specs.MoveLists.{BasisView, IsBasis, AreLeadMasks, AreTold};
 
     ghost Value = { BasisView };
 
     ghost view = { λ b. record { moves = b.moves.items; priority = b.priority; grading = b.grading } };
 
     ghost invariant = { λ b. IsBasis (record { moves = b.moves.items; priority = b.priority; grading = b.grading })
-        × AreLeadMasks b.moves.items b.lead_masks.items };
+        × AreLeadMasks b.moves.items b.lead_masks.items × AreTold b.moves.items b.told.items };
 }
 
 impl Basis {
@@ -53,6 +58,7 @@ impl Basis {
         Basis {
             moves: Vec::new(alloc),
             lead_masks: Vec::new(alloc),
+            told: Vec::new(alloc),
             priority,
             grading,
         }
@@ -70,9 +76,14 @@ impl Basis {
         if self.lead_masks.push(m.mask(Side::Plus)).is_err() {
             return Err(PushFault { given: m });
         }
+        if self.told.push(is_told(&m)).is_err() {
+            let _ = self.lead_masks.pop();
+            return Err(PushFault { given: m });
+        }
         match self.moves.push(m) {
             Ok(()) => Ok(()),
             Err(failed) => {
+                let _ = self.told.pop();
                 let _ = self.lead_masks.pop();
                 Err(PushFault {
                     given: failed.value,
@@ -116,6 +127,15 @@ impl Basis {
         &self.lead_masks
     }
 
+    /// Does the mask of the lead of a place tell it whole: are there at most 64 columns, and no entry above 1? (Sturmfels,
+    /// chapter 1: a squarefree monomial)
+    pub fn is_lead_told(&self, k: u32) -> bool
+        requires { k < length self.now.moves }
+        ensures { IsTrue result → IsTold (lead (move_at (vectors_of self.now.moves) k)) }
+    {
+        self.told[k as usize]
+    }
+
     /// The list that orients its moves.
     pub fn priority(&self) -> &Priority
         ensures { result.now ≡ self.now.priority }
@@ -138,10 +158,31 @@ impl Basis {
         Ok(Basis {
             moves,
             lead_masks: self.lead_masks.clone()?,
+            told: self.told.clone()?,
             priority: self.priority.try_copy()?,
             grading: self.grading.try_copy()?,
         })
     }
+}
+
+/// Does its mask tell the lead of a move whole?
+fn is_told(m: &Move) -> bool
+    ensures { IsTrue result → IsTold (lead m.now.entries) }
+{
+    m.columns() <= 64 && is_none_above_one(m.entries())
+}
+
+/// Is no entry of the row above 1?
+fn is_none_above_one(row: &[Entry]) -> bool
+    requires { All IsEntry row.now }
+    ensures { IsTrue result → All IsAtMostOne row.now }
+{
+    for entry in row {
+        if *entry > 1 {
+            return false;
+        }
+    }
+    true
 }
 
 /// Copies of moves.

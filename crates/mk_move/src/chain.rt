@@ -19,6 +19,23 @@ pub fn chain_divides(basis: &Basis, i: u32, j: u32, k: u32) -> bool
     requires third { k < length basis.now.moves }
     ensures { IsTrue result ↔ DividesBetween (vectors_of basis.now.moves) i j k }
 {
+    let masks = basis.lead_masks();
+    if masks[k as usize] & !(masks[i as usize] | masks[j as usize]) != 0 {
+        return false;
+    }
+    if basis.is_lead_told(k) {
+        return true;
+    }
+    divides_by_entries(basis, i, j, k)
+}
+
+/// As `chain_divides`, by the entries of the moves.
+fn divides_by_entries(basis: &Basis, i: u32, j: u32, k: u32) -> bool
+    requires first { i < length basis.now.moves }
+    requires second { j < length basis.now.moves }
+    requires third { k < length basis.now.moves }
+    ensures { IsTrue result ↔ DividesBetween (vectors_of basis.now.moves) i j k }
+{
     divides_between(basis.move_at(i), basis.move_at(j), basis.move_at(k))
 }
 

@@ -7,7 +7,7 @@ use mk_move::{Move, Side, first_bit};
 use std::alloc::Global;
 
 /// So many leads are a full block.
-const FULL: usize = 16;
+const FULL: usize = 32;
 
 /// Some of the leads: their masks one after another, and their places.
 #[derive(Debug, Drop)]
@@ -74,7 +74,7 @@ impl Block {
     /// there is one.
     pub(crate) fn splitting_bit(&self, mask: u64) -> Option<u32>
         ensures splits { IfSome result (TellsApart self.now mask) }
-        ensures none { IfNone result ((length self.now.masks.items < 16) ⊎ All (λ m. m ≡ mask) self.now.masks.items) }
+        ensures none { IfNone result ((length self.now.masks.items < 32) ⊎ All (λ m. m ≡ mask) self.now.masks.items) }
     {
         if self.masks.len() < FULL {
             return None;

@@ -51,26 +51,29 @@ fn three_leads_are_found(rt: HostRuntime) -> Result<(), Fail> {
     Ok(())
 }
 
-// Of twenty columns and one more the row with a 1 in a column and a -1 in the last.
-fn unit(column: usize) -> [Entry; 21]
-    requires { column < 20 }
+// Of fourteen columns the row with a 1 in the first, in one of the next six and in one of the six behind them, a pair of these
+// for each number, and a -3 in the last.
+fn beside_first(number: usize) -> [Entry; 14]
+    requires { number < 36 }
     ensures { All IsEntry result }
 {
-    let mut row = [0; 21];
-    row[column] = 1;
-    row[20] = -1;
+    let mut row = [0; 14];
+    row[0] = 1;
+    row[1 + number % 6] = 1;
+    row[7 + number / 6] = 1;
+    row[13] = -3;
     row
 }
 
 #[test]
 fn leads_of_a_split_leaf_are_found(rt: HostRuntime) -> Result<(), Fail> {
     let mut tree = SupportTree::new(rt.alloc());
-    for column in 0..20 {
-        put(&rt, &mut tree, &unit(column))?;
+    for number in 0..36 {
+        put(&rt, &mut tree, &beside_first(number))?;
     }
-    for column in 0..20 {
-        let m = move_of(&rt, &unit(column))?;
-        assert_eq!(rt; tree.find(&m, Side::Plus), Some(column as u32));
+    for number in 0..36 {
+        let m = move_of(&rt, &beside_first(number))?;
+        assert_eq!(rt; tree.find(&m, Side::Plus), Some(number as u32));
         assert_eq!(rt; tree.find(&m, Side::Minus), None);
     }
     Ok(())

@@ -1,5 +1,5 @@
 use Rattle.std.proofs.Common.{◌≡◌, length, All, List, ℤ}
 use Rattle.mk_support.proofs.tests.leads_of_a_split_leaf_are_found.Given as goal
 
-abbrev pub invariant-loop-column : goal.invariant-loop-column
-invariant-loop-column g l = (length l.tree ≡ l.column) × All (λ (lead : List ℤ). length lead ≡ 21) l.tree
+abbrev pub invariant-loop-number : goal.invariant-loop-number
+invariant-loop-number g l = (length l.tree ≡ l.number) × All (λ (lead : List ℤ). length lead ≡ 14) l.tree

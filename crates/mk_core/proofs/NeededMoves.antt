@@ -1,5 +1,5 @@
 -- What makes a move redundant, by its place, and the moves that are needed, one place after another.
-use Rattle.std.proofs.Common.{◌≡◌, ◌⊎◌, length-append, inl, inr, ◌↔◌, ℕ, ◌+◌, ◌-◌, ◌<◌, ◌≤◌, Bool, true, false, not, ◌&&◌, ◌||◌, nat_lt, IsTrue, List, [], ◌∷◌, ◌++◌, length, take, drop, get_or, slice_get, Some, All, ℤ, add-one, arith, ap, refl, sym, ◌∙◌, subst, ⊎_elim}
+use Rattle.std.proofs.Common.{◌≡◌, ◌⊎◌, length-append, inl, inr, ◌↔◌, ℕ, ◌+◌, ◌-◌, ◌<◌, ◌≤◌, Bool, true, false, not, ◌&&◌, ◌||◌, nat_lt, IsTrue, List, [], ◌∷◌, ◌++◌, length, take, drop, get_or, slice_get, Some, All, ℤ, add-one, arith, rules, ap, refl, sym, ◌∙◌, subst, ⊎_elim}
 use Rattle.std.specs.List.{list_any}
 use Rattle.std.proofs.lemmas.Bool.{both_ways, cases_lt, and_parts, not-true, lt-ltb}
 use Rattle.std.proofs.lemmas.Bool.Decides.{nat_tests, same_from_decides}
@@ -43,6 +43,12 @@ module _ (moves : List Weighed) (other place : ℕ) (v m : Weighed) (h : slice_g
   -- it divides and doesn't stand before
   pub dividing_behind : has_divisor m.entries v.entries ≡ true → place ≤ other → (back : Bool) → back ≡ has_divisor v.entries m.entries → not back ≡ makes_redundant (vectors_of moves) other place
   dividing_behind e l back f = rw (test_at, e, not_lesser other place l, f) refl
+
+-- a lead that doesn't divide makes no move redundant
+pub not_made : (moves : List (List ℤ)) (other place : ℕ) → (Divides (lead (move_at moves other)) (lead (move_at moves place)) → ⊥) → false ≡ makes_redundant moves other place
+not_made moves other place h =
+    let none : false ≡ has_divisor (move_at moves place) (move_at moves other) = divides_is false (move_at moves other) (move_at moves place) ((λ t. search rules), (λ d. absurd (h d))) in
+    ap (λ (b : Bool). b && (nat_lt other place || not (has_divisor (move_at moves other) (move_at moves place)))) none
 
 -- ---- the test of one place
 either : (a b : Bool) → (a ≡ true) ⊎ (b ≡ true) → (a || b) ≡ true

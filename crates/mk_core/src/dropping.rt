@@ -55,6 +55,10 @@ fn makes_redundant(basis: &Basis, other: u32, place: u32) -> bool
     requires place { place < length basis.now.moves }
     ensures { result ≡ makes_redundant (vectors_of basis.now.moves) other place }
 {
+    let masks = basis.lead_masks();
+    if masks[other as usize] & !masks[place as usize] != 0 {
+        return false;
+    }
     let v = basis.move_at(other);
     let m = basis.move_at(place);
     lead_divides(v, m, Side::Plus) && (other < place || !lead_divides(m, v, Side::Plus))

@@ -4,6 +4,8 @@
 #[cfg(test)]
 mod completions;
 #[cfg(test)]
+mod halts;
+#[cfg(test)]
 mod pairs;
 #[cfg(test)]
 mod shown;

@@ -11,4 +11,5 @@ pub mod NeededMoves
 pub mod Seats
 pub mod Lines
 pub mod Turns
+pub mod Halting
 pub mod Neighbours

@@ -1,11 +1,12 @@
 -- The lines that workers take, each from what its worker knows.
-use Rattle.std.proofs.Common.{◌≡◌, ◌≢◌, ◌⊎◌, inl, inr, ℕ, ◌+◌, ◌≤◌, ◌<◌, List, [], ◌∷◌, ◌++◌, length, length-append, take, Option, None, Some, IfSome, MatchOption, is_some, true, false, true≢false, ℤ, arith, ap, refl, sym, ◌∙◌, subst}
+use Rattle.std.proofs.Common.{◌≡◌, ◌≢◌, ◌⊎◌, inl, inr, ℕ, ◌+◌, ◌≤◌, ◌<◌, List, [], ◌∷◌, ◌++◌, length, length-append, take, Option, None, Some, IfSome, MatchOption, is_some, Bool, true, false, true≢false, ℤ, arith, ap, refl, sym, ◌∙◌, subst}
 use Rattle.std.proofs.lemmas.Option.{none-some, same_Some}
 use Rattle.std.proofs.lemmas.List.{append-nil, map_push}
 use Rattle.mk_model.specs.Vectors.{zeros, negate}
-use Rattle.mk_model.specs.CoreStates.{Pair, Settle, claim_of, difference, IsPairOf}
+use Rattle.mk_model.specs.CoreStates.{Pair, Settle, claim_of, halt_of, difference, IsPairOf}
+use Rattle.mk_model.specs.CoreStates.Halt.{Memory as HaltMemory}
 use Rattle.mk_model.specs.CoreStates.Way.{Chain, Zero, Place}
-use Rattle.mk_model.specs.Events.{AreSettled, IsSettling, HaveCommonColumn}
+use Rattle.mk_model.specs.Events.{AreSettled, IsSettling, IsHalting, HaveCommonColumn}
 use Rattle.mk_model.specs.Reductions.{Reduct, IsNormal}
 use Rattle.mk_model.specs.Programs as program
 use Rattle.mk_model.specs.Programs.{IsCandidate, IsNextCandidate, NoneIsLeft, IsReducedTo, IsWholeLine, ReducesTo}
@@ -22,8 +23,8 @@ use Rattle.mk_core.specs.declared.seat.Stage.TheVariants.{Idle, Fresh, Tests, Re
 use Rattle.mk_core.specs.declared.work.WorkFault.{WorkFault}
 use Rattle.mk_core.specs.declared.work.WorkFault.TheVariants.{Memory, Overflow}
 use Rattle.mk_core.specs.Remainders.{IsWorkFault}
-use Rattle.mk_core.specs.Seats.{IsStoppingBy, stage_of, HasCopy, HasWork, HasReduced, IsAt, TakesLine, ReducesWork, IsThirdTried, IsRestOfClaim, PlacesRest}
-use Rattle.mk_core.proofs.Seats.{longer_here, longer_same, settled_idle, as_many, claim_of_basis, seen_vectors, common_seen, overflow_whole}
+use Rattle.mk_core.specs.Seats.{IsStoppingBy, stage_of, HasCopy, HasWork, HasReduced, IsAt, TurnsTo, TakesLine, ReducesWork, IsThirdTried, IsRestOfClaim, PlacesRest}
+use Rattle.mk_core.proofs.Seats.{longer_here, longer_same, not_halted_yet, settled_idle, as_many, claim_of_basis, seen_vectors, common_seen, overflow_whole}
 
 -- ---- what an option that is matched tells
 pub match_none : {X : Type 0} (o : Option X) (N : Type 0) (P : X → Type 0) → MatchOption o N P → is_some o ≡ false → N
@@ -55,9 +56,62 @@ pub not_both : (journal : List Settle) (pair : Pair) (third : ℕ) (unsettled : 
 not_both journal pair third unsettled (inl (e, f)) (a, b) = f a
 not_both journal pair third unsettled (inr (e, a, f)) (_, b) = f b
 
+-- ---- without memory
+is_gone : program.Stage → Bool
+is_gone program.Stage.Idle = false
+is_gone program.Stage.Fresh = false
+is_gone (program.Stage.Tests _ _ _) = false
+is_gone (program.Stage.Ready _) = false
+is_gone (program.Stage.Reduced _ _) = false
+is_gone (program.Stage.Stale _) = false
+is_gone (program.Stage.Stopping _) = false
+is_gone program.Stage.Gone = true
+
+goes_on : (n : ℕ) (stage : Stage) → stage ≢ Gone → is_gone (stage_of n stage) ≡ false
+unfolding is_gone
+goes_on n Idle d = refl
+goes_on n Fresh d = refl
+goes_on n (Tests _ _ _) d = refl
+goes_on n (Ready _) d = refl
+goes_on n (Reduced _) d = refl
+goes_on n (Stale _) d = refl
+goes_on n (Stopping _) d = refl
+goes_on n Gone d = absurd (d refl)
+
+not_gone : (n : ℕ) (stage : Stage) → stage ≢ Gone → stage_of n stage ≢ program.Stage.Gone
+unfolding is_gone
+not_gone n stage d e = true≢false (sym (ap is_gone e) ∙ goes_on n stage d)
+
+-- a worker that is gone changes nothing
+pub stays_gone : (ledger : LedgerView) (worker : ℕ) (stage : Stage) → stage ≡ Gone → TurnsTo ledger worker true stage ledger Gone
+stays_gone ledger worker stage e = record {
+  line = (inl (ap (stage_of (length ledger.basis.grading)) e, refl), refl);
+  stands = tt;
+  longer = longer_here ledger.basis;
+}
+
+-- any other halts
+pub refused_once : (before after : LedgerView) (worker : ℕ) (stage : Stage) → stage ≢ Gone → IsHalting before.state worker HaltMemory after.state → after.basis ≡ before.basis → TurnsTo before worker true stage after Gone
+refused_once before after worker stage d h e = record {
+  line = (inr (not_gone (length before.basis.grading) stage d, h), refl);
+  stands = tt;
+  longer = longer_same before.basis after.basis e;
+}
+
 module _ (ledger : LedgerView) (kept : IsLedger ledger) (worker : ℕ) where
   abbrev n : ℕ
   n = length ledger.basis.grading
+
+  -- a worker that isn't gone has no halt
+  pub no_halt_at : (stage : Stage) → IsAt ledger worker stage → stage ≢ Gone → halt_of ledger.state worker ≡ None
+  no_halt_at Idle (e, f) d = f
+  no_halt_at Fresh (pair, e) d = not_halted_yet ledger kept worker pair e
+  no_halt_at (Tests seen from tried) (pair, h) d = not_halted_yet ledger kept worker pair h.claimed
+  no_halt_at (Ready seen) (pair, h, common) d = not_halted_yet ledger kept worker pair h.claimed
+  no_halt_at (Reduced work) h d = not_halted_yet ledger kept worker work.pair h.of_copy.copy.claimed
+  no_halt_at (Stale work) h d = not_halted_yet ledger kept worker work.pair h.copy.claimed
+  no_halt_at (Stopping stop) (e, overflow) d = not_halted_yet ledger kept worker (stop_of stop).pair e
+  no_halt_at Gone h d = absurd (d refl)
 
   -- ---- fresh
   pub copies : (pair : Pair) → claim_of ledger.state worker ≡ Some pair → (seen : BasisView) → seen ≡ ledger.basis → TakesLine ledger worker Fresh ledger (Tests seen 0 0)
@@ -98,7 +152,7 @@ module _ (ledger : LedgerView) (kept : IsLedger ledger) (worker : ℕ) where
         claimed = h.copy.claimed;
         test = inr (h.common, inl (record { few = h.few; third = third; found = found; answer = inl (settling, refl) }));
       };
-      stands = settled_idle n ledger.basis.priority ledger.state worker (Chain third) after.state settling;
+      stands = settled_idle ledger kept n ledger.basis.priority worker (Chain third) after settling;
       longer = longer_same ledger.basis after.basis e;
     }
 
@@ -246,7 +300,7 @@ module _ (ledger : LedgerView) (kept : IsLedger ledger) (worker : ℕ) where
   pub zero_line : (work : TheWork) → HasReduced ledger worker work → work.remainder ≡ None → (after : LedgerView) → IsSettling n ledger.basis.priority ledger.state worker Zero after.state → after.basis ≡ ledger.basis → TakesLine ledger worker (Reduced work) after Idle
   zero_line work h e after settling f = record {
     line = inl (ap (rest_of n) e, settling, refl);
-    stands = settled_idle n ledger.basis.priority ledger.state worker Zero after.state settling;
+    stands = settled_idle ledger kept n ledger.basis.priority worker Zero after settling;
     longer = longer_same ledger.basis after.basis f;
   }
 
@@ -288,7 +342,7 @@ module _ (ledger : LedgerView) (kept : IsLedger ledger) (worker : ℕ) where
         },
         refl,
       );
-      stands = settled_idle n ledger.basis.priority ledger.state worker (Place place) after.state h.settling;
+      stands = settled_idle ledger kept n ledger.basis.priority worker (Place place) after h.settling;
       longer = record { priority = ap (λ (b : BasisView). b.priority) h.pushed; grading = ap (λ (b : BasisView). b.grading) h.pushed; more = placed ∷ []; moves = ap (λ (b : BasisView). b.moves) h.pushed };
     }
 

@@ -2,7 +2,7 @@
 use Rattle.std.proofs.Common.{◌≡◌, ℕ, Bool, false, true≢false, IsTrue, List, [], ◌++◌, length, take, Option, None, Some, ap, refl, sym, ◌∙◌, subst, append_assoc}
 use Rattle.std.proofs.lemmas.Option.{none-some, same_Some}
 use Rattle.std.proofs.lemmas.List.{append-nil, length-map, map-append, take_at}
-use Rattle.mk_model.specs.CoreStates.{Pair, Way, OverflowStop, Halt, CoreState, claim_of, halt_of, move_at, IsPairOf}
+use Rattle.mk_model.specs.CoreStates.{Pair, Way, OverflowStop, Halt, claim_of, halt_of, move_at, IsPairOf}
 use Rattle.mk_model.specs.Orders.{lead}
 use Rattle.mk_model.specs.Pairs.{AreDisjoint}
 use Rattle.mk_model.specs.Events.{IsSettling, HaveCommonColumn, IsPairOverflow}
@@ -11,7 +11,8 @@ use Rattle.mk_model.proofs.LegalEvents.{cleared_here}
 use Rattle.mk_move.specs.Moves.{Weighed}
 use Rattle.mk_move.specs.MoveLists.{BasisView, vectors_of}
 use Rattle.mk_ledger.specs.Ledgers.{LedgerView, IsLedger}
-use Rattle.mk_core.specs.Seats.{IsLonger, HasCopy}
+use Rattle.mk_core.specs.declared.seat.Stage.TheVariants.{Idle}
+use Rattle.mk_core.specs.Seats.{IsLonger, HasCopy, IsAt}
 
 -- ---- longer bases
 pub longer_here : (basis : BasisView) → IsLonger basis basis
@@ -38,9 +39,6 @@ same_claim ledger worker seen pair other h e = subst (HasCopy ledger worker seen
 pub same_common : (ledger : LedgerView) (worker : ℕ) (pair other : Pair) → claim_of ledger.state worker ≡ Some pair → claim_of ledger.state worker ≡ Some other → HaveCommonColumn ledger.state.basis pair → HaveCommonColumn ledger.state.basis other
 same_common ledger worker pair other e f common = subst (HaveCommonColumn ledger.state.basis) (same_Some pair other (sym e ∙ f)) common
 
-pub settled_idle : (n : ℕ) (priority : List ℕ) (state : CoreState) (worker : ℕ) (way : Way) (after : CoreState) → IsSettling n priority state worker way after → claim_of after worker ≡ None
-settled_idle n priority state worker way after h = ap (λ s. claim_of s worker) h.changed ∙ cleared_here state.claims worker
-
 module _ (ledger : LedgerView) (kept : IsLedger ledger) where
   pub as_many : length ledger.state.basis ≡ length ledger.basis.moves
   as_many = ap length kept.moves ∙ length-map ledger.basis.moves (λ m. m.entries)
@@ -55,6 +53,13 @@ module _ (ledger : LedgerView) (kept : IsLedger ledger) where
       go : (halt : Option Halt) → halt_of ledger.state worker ≡ halt → halt ≡ None
       go None e = refl
       go (Some halt) e = absurd (none-some pair (sym (kept.legal.halted_without_claim worker halt e) ∙ claimed))
+
+  -- a worker that settled its claim has none, and no halt
+  pub settled_idle : (n : ℕ) (priority : List ℕ) (worker : ℕ) (way : Way) (after : LedgerView) → IsSettling n priority ledger.state worker way after.state → IsAt after worker Idle
+  settled_idle n priority worker way after h = (
+    ap (λ s. claim_of s worker) h.changed ∙ cleared_here ledger.state.claims worker,
+    ap (λ s. halt_of s worker) h.changed ∙ not_halted_yet worker h.pair h.claimed,
+  )
 
   -- the test of the leads of a pair says no
   pub common_column : (basis : BasisView) → basis ≡ ledger.basis → (pair : Pair) (disjoint : Bool) → disjoint ≡ false →

@@ -2,6 +2,7 @@ pub mod Phases
 pub mod JobPhases
 pub mod GoingOn
 pub mod Remainders
+pub mod Halting
 pub mod Seats
 pub mod SaturatedBases
 pub mod Redundancy

@@ -1,16 +1,17 @@
 -- At what a worker is that takes turns with others, and the line that it takes. (Sturmfels, chapter 1)
-use Rattle.std.specs.Prelude.{◌≡◌, ℕ, ◌<◌, List, ◌++◌, length, get_or, replicate, set, Some, None}
-use Rattle.mk_model.specs.CoreStates.{Pair, claim_of, new_state, IsPairOf}
+use Rattle.std.specs.Prelude.{◌≡◌, ℕ, ◌<◌, Bool, false, List, ◌++◌, length, get_or, replicate, set, Some, None}
+use Rattle.mk_model.specs.CoreStates.{Pair, claim_of, halt_of, new_state, IsPairOf}
 use Rattle.mk_model.specs.Events.{HaveCommonColumn, IsPairOverflow}
 use Rattle.mk_model.specs.Overflows.{IsGenuineOverflow}
 use Rattle.mk_model.specs.Reductions.{Reduct}
 use Rattle.mk_model.specs.Programs as program
-use Rattle.mk_model.specs.Programs.{IsProgramLine, IsNextCandidate, IsWholeLine, Drives}
+use Rattle.mk_model.specs.Programs.{IsNextCandidate, IsWholeLine, Drives}
 use Rattle.mk_move.specs.Moves.{Weighed}
 use Rattle.mk_move.specs.MoveLists.{BasisView, vectors_of}
 use Rattle.mk_reduce.specs.Works.{TheWork, WorkOf, rest_of, IsReduced}
 use Rattle.mk_ledger.specs.Halts.{stop_of}
 use Rattle.mk_ledger.specs.Ledgers.{LedgerView, IsLedger}
+use Rattle.mk_core.specs.Halting.{ScheduledTurn, IsTurnLine}
 use Rattle.mk_core.specs.declared.phase.Job.{Job}
 use Rattle.mk_core.specs.declared.work.WorkFault.{WorkFault}
 use Rattle.mk_core.specs.declared.work.WorkFault.TheVariants.{Memory, Overflow}
@@ -58,7 +59,7 @@ pub record HasReduced (ledger : LedgerView) (worker : ℕ) (work : TheWork) : Ty
 
 -- what a worker knows at each stage
 abbrev pub IsAt : LedgerView → ℕ → Stage → Type 0
-IsAt ledger worker Idle = claim_of ledger.state worker ≡ None
+IsAt ledger worker Idle = (claim_of ledger.state worker ≡ None) × (halt_of ledger.state worker ≡ None)
 IsAt ledger worker Fresh = (pair : Pair) × (claim_of ledger.state worker ≡ Some pair)
 IsAt ledger worker (Tests seen from tried) = (pair : Pair) × HasCopy ledger worker seen pair
 IsAt ledger worker (Ready seen) = (pair : Pair) × HasCopy ledger worker seen pair × HaveCommonColumn ledger.state.basis pair
@@ -68,12 +69,16 @@ IsAt ledger worker (Stopping stop) = (claim_of ledger.state worker ≡ Some (sto
 IsAt ledger worker Gone = Unit {0}
 
 -- ---- lines and turns
--- one line of the program, from a stage of the worker to the ledger and its stage afterwards
-pub record TakesLine (before : LedgerView) (worker : ℕ) (stage : Stage) (after : LedgerView) (next : Stage) : Type 0 where
-  pub line : IsProgramLine (length before.basis.grading) before.basis.priority before.state worker (stage_of (length before.basis.grading) stage) after.state
+-- one turn, with memory or without, from a stage of the worker to the ledger and its stage afterwards
+pub record TurnsTo (before : LedgerView) (worker : ℕ) (refused : Bool) (stage : Stage) (after : LedgerView) (next : Stage) : Type 0 where
+  pub line : IsTurnLine (length before.basis.grading) before.basis.priority before.state worker refused (stage_of (length before.basis.grading) stage) after.state
       (stage_of (length before.basis.grading) next)
   pub stands : IsAt after worker next
   pub longer : IsLonger before.basis after.basis
+
+-- one line of the program, likewise
+abbrev pub TakesLine : LedgerView → ℕ → Stage → LedgerView → Stage → Type 0
+TakesLine before worker stage after next = TurnsTo before worker false stage after next
 
 -- Work on a pair by a basis leads to a stage: what is left is reduced, or an entry leaves the range.
 abbrev pub ReducesWork : BasisView → TheWork → Stage → Type 0
@@ -113,11 +118,11 @@ pub record AreSeated (ledger : LedgerView) (seats : List Stage) : Type 0 where
   pub count : length seats ≡ ledger.state.workers
   pub each : (worker : ℕ) → IsAt ledger worker (get_or seats worker Gone)
 
--- the worker takes its line, and the others stay at their stages
-pub record TakesTurn (before : LedgerView) (seats : List Stage) (worker : ℕ) (after : LedgerView) (seats_after : List Stage) : Type 0 where
+-- the worker has its turn, and the others stay at their stages
+pub record TakesTurn (before : LedgerView) (seats : List Stage) (turn : ScheduledTurn) (after : LedgerView) (seats_after : List Stage) : Type 0 where
   pub next : Stage
-  pub line : TakesLine before worker (get_or seats worker Gone) after next
-  pub changed : seats_after ≡ set seats worker next
+  pub line : TurnsTo before turn.worker turn.refused (get_or seats turn.worker Gone) after next
+  pub changed : seats_after ≡ set seats turn.worker next
   pub seated : AreSeated after seats_after
 
 -- the ledger is legal, and what the turns lead to from the start of a job, where no worker had a claim

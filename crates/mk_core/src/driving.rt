@@ -1,11 +1,12 @@
 //! Completion by several workers that take turns, in the order of a schedule.
 
 ghost use Rattle.std.specs.Prelude.{◌≤◌, ◌<◌, length, map, All, IfOk, OnOk, replicate, ◌≡◌};
+ghost use Rattle.mk_core.specs.Halting.{IsHaltingDriven};
 ghost use Rattle.mk_core.specs.Seats.{AreSeated, IsDriven, TakesTurn};
 ghost use Rattle.mk_core.specs.declared.seat.Stage.TheVariants.{Idle};
 
 use crate::phase::Job;
-use crate::seat::{Stage, take_line};
+use crate::seat::{Stage, take_stage};
 use mk_ledger::Ledger;
 use mk_model::NoMemory;
 use std::alloc::Global;
@@ -32,6 +33,29 @@ pub fn drive(alloc: Global, job: Job, workers: u32, schedule: &[Turn]) -> Result
     requires turns { All (λ turn. turn.worker < workers) schedule.now }
     ensures { IfOk result (IsDriven job workers (map (λ turn. turn.worker) schedule.now)) }
 {
+    drive_halting(alloc, job, workers, schedule, &[])
+}
+
+/// Completes the start of a job as `drive` does, where memory is refused at the turns of these numbers, counted from 0. At such
+/// a turn a worker that isn't gone halts for want of memory in place of its line, gives up its claim, and is gone. The others
+/// may still settle theirs. No number need be that of a turn, and none need be in order.
+///
+/// The start has at most `basis_limit` moves, and the limit is at most 65,536. Each turn's worker is below the number of
+/// workers. The ledger is legal. (Sturmfels, chapters 1 and 12: Buchberger's algorithm for a lattice)
+pub fn drive_halting(
+    alloc: Global,
+    job: Job,
+    workers: u32,
+    schedule: &[Turn],
+    refused: &[u64],
+) -> Result<Ledger, NoMemory>
+    requires start { length job.start.moves ≤ job.basis_limit }
+    requires limit { job.basis_limit ≤ 65536 }
+    requires some { 1 ≤ workers }
+    requires few { workers ≤ 64 }
+    requires turns { All (λ turn. turn.worker < workers) schedule.now }
+    ensures { IfOk result (IsHaltingDriven job workers (map (λ turn. turn.worker) schedule.now) refused.now) }
+{
     let Job {
         start,
         budget,
@@ -39,8 +63,9 @@ pub fn drive(alloc: Global, job: Job, workers: u32, schedule: &[Turn]) -> Result
     } = job;
     let mut ledger = Ledger::new(alloc, start, budget, basis_limit, workers)?;
     let mut seats = idle_seats(alloc, workers)?;
-    for turn in schedule {
-        take_turn(alloc, &mut ledger, &mut seats, turn.worker)?;
+    for (number, turn) in schedule.iter().enumerate() {
+        let is_refused = refused.contains(&(number as u64));
+        take_turn(alloc, &mut ledger, &mut seats, turn.worker, is_refused)?;
     }
     // Whoever has its basis knows that it is legal.
     let _ = ledger.basis();
@@ -58,21 +83,22 @@ fn idle_seats(alloc: Global, workers: u32) -> Result<Vec<Stage>, NoMemory>
     Ok(seats)
 }
 
-/// Takes the line of a worker.
+/// Takes the turn of a worker, with memory or without.
 fn take_turn(
     alloc: Global,
     ledger: &mut Ledger,
     seats: &mut Vec<Stage>,
     worker: u32,
+    is_refused: bool,
 ) -> Result<(), NoMemory>
     requires seated { AreSeated ledger.old seats.old.items }
     requires within { worker < length seats.old.items }
-    ensures { OnOk result (TakesTurn ledger.old seats.old.items worker ledger.new seats.new.items) }
+    ensures { OnOk result (TakesTurn ledger.old seats.old.items (record { worker = worker; refused = is_refused }) ledger.new seats.new.items) }
 {
     // Whoever has its basis knows that it is legal.
     let _ = ledger.basis();
     let stage = mem::replace(&mut seats[worker as usize], Stage::Gone);
-    let next = take_line(alloc, ledger, worker, stage)?;
+    let next = take_stage(alloc, ledger, worker, is_refused, stage)?;
     seats[worker as usize] = next;
     let _ = ledger.basis();
     Ok(())

@@ -6,6 +6,7 @@ mod completed;
 mod completion;
 mod driving;
 mod dropping;
+mod laws;
 mod phase;
 mod saturated;
 mod seat;
@@ -15,8 +16,9 @@ mod work;
 
 pub use completed::Completed;
 pub use completion::{LeadFinder, complete_alone, finder_of, finish_alone};
-pub use driving::{Turn, drive};
+pub use driving::{Turn, drive, drive_halting};
 pub use dropping::drop_redundant;
+pub use laws::refusals_happen_by_events;
 pub use mk_ledger::{Journal, JournalEntry, Kind};
 pub use phase::{Job, Phase, Stopped};
 pub use saturated::SaturatedBasis;

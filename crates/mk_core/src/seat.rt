@@ -1,12 +1,12 @@
 //! A worker's program, one line at a time, where several workers take turns.
 
-ghost use Rattle.std.specs.Prelude.{◌≡◌, ◌<◌, IsSome, length, IfOk};
+ghost use Rattle.std.specs.Prelude.{◌≡◌, ◌↔◌, ◌<◌, true, IsTrue, IsSome, length, IfOk};
 ghost use Rattle.mk_model.specs.CoreStates.{pair_of, claim_of, IsPairOf};
 ghost use Rattle.mk_model.specs.Events.{HaveCommonColumn};
 ghost use Rattle.mk_move.specs.MoveLists.{vectors_of};
 ghost use Rattle.mk_reduce.specs.Works.{WorkOf};
 ghost use Rattle.mk_core.specs.Remainders.{IsWorkFault, fault_of_stop};
-ghost use Rattle.mk_core.specs.Seats.{stage_of, HasReduced, IsAt, IsRestOfClaim, IsStoppingBy, IsThirdTried, PlacesRest, ReducesWork, TakesLine};
+ghost use Rattle.mk_core.specs.Seats.{stage_of, HasReduced, IsAt, IsRestOfClaim, IsStoppingBy, IsThirdTried, PlacesRest, ReducesWork, TakesLine, TurnsTo};
 ghost use Rattle.mk_core.specs.declared.seat.Stage.TheVariants.{Idle, Fresh, Tests, Ready, Reduced, Stale, Stopping, Gone};
 
 use crate::completion::finder_of;
@@ -34,8 +34,48 @@ pub(crate) enum Stage {
     Gone,
 }
 
+/// Takes the worker's turn, and gives its stage afterwards: it takes its line of the program, or halts where memory is refused.
+pub(crate) fn take_stage(
+    alloc: Global,
+    ledger: &mut Ledger,
+    worker: u32,
+    is_refused: bool,
+    stage: Stage,
+) -> Result<Stage, NoMemory>
+    requires seat { IsAt ledger.old worker stage }
+    requires within { worker < ledger.old.state.workers }
+    ensures { IfOk result (TurnsTo ledger.old worker is_refused stage ledger.new) }
+{
+    if is_refused {
+        return Ok(refuse(ledger, worker, &stage));
+    }
+    take_line(alloc, ledger, worker, stage)
+}
+
+/// Halts the worker for want of memory, unless it is gone.
+fn refuse(ledger: &mut Ledger, worker: u32, stage: &Stage) -> Stage
+    requires seat { IsAt ledger.old worker stage.now }
+    requires within { worker < ledger.old.state.workers }
+    ensures { TurnsTo ledger.old worker true stage.now ledger.new result }
+{
+    // Whoever has its basis knows that it is legal.
+    let _ = ledger.basis();
+    if is_gone(stage) {
+        return Stage::Gone;
+    }
+    ledger.halt(worker, Halt::Memory);
+    Stage::Gone
+}
+
+/// Whether the worker does nothing more.
+fn is_gone(stage: &Stage) -> bool
+    ensures { IsTrue result ↔ (stage.now ≡ Gone) }
+{
+    matches!(stage, Stage::Gone)
+}
+
 /// Takes the worker's line of the program, and gives its stage afterwards.
-pub(crate) fn take_line(
+fn take_line(
     alloc: Global,
     ledger: &mut Ledger,
     worker: u32,
@@ -59,7 +99,7 @@ pub(crate) fn take_line(
 
 /// Asks for a pair.
 fn claim_next(ledger: &mut Ledger, worker: u32) -> Stage
-    requires idle { claim_of ledger.old.state worker ≡ None }
+    requires idle { IsAt ledger.old worker Idle }
     requires within { worker < ledger.old.state.workers }
     ensures { TakesLine ledger.old worker Idle ledger.new result }
 {

@@ -1,7 +1,13 @@
 pub mod Names
+pub mod Reading
 pub mod Steps
 pub mod Lines
+pub mod Rules
+pub mod Seen
+pub mod Rows
+pub mod Turns
+pub mod Parses
+pub mod Ends
 pub mod DigitsRead
-pub mod GivenWords
 pub mod SizesRead
 pub mod Determined

@@ -1,54 +1,53 @@
 -- Lines, and reading them from the left.
-use Rattle.std.proofs.Common.{◌≡◌, ◌<◌, ◌≤◌, ◌+◌, ℕ, length, get_or, drop, drop-cons, add-one, List, [], ◌∷◌, ◌++◌, Option, Some, None, map, inl, inr, refl, sym, ap, subst, ◌∙◌, append_assoc}
-use Rattle.std.proofs.lemmas.List.{append-nil, drop_all}
-use Rattle.mk_words.specs.declared.kinds.Setting.{Setting}
-use Rattle.mk_words.specs.declared.pieces.Next.{Next}
-use Rattle.mk_words.specs.declared.pieces.Next.TheVariants as next
+use Rattle.std.proofs.Common.{◌≡◌, List, [], ◌∷◌, ◌++◌, Option, Some, None, map, inl, inr, refl, sym, ap, subst, ◌∙◌, append_assoc}
+use Rattle.std.proofs.lemmas.List.{append-nil}
+use Rattle.mk_words.specs.declared.options.Setting.{Setting}
 use Rattle.mk_words.specs.Words.{Word, Piece, option, plain, option_name, end_of_options, IsCommandLine, IsWritten, AreWritten, behind, plain_behind}
-use Rattle.mk_words.specs.Reading.{GoesOn, Takes, HasRead, IsOnlyLine, IsNoLine}
+use Rattle.mk_words.specs.Given.{IsOnlyLine}
+use Rattle.mk_words.proofs.Reading.{Next, Any, Value, Plain, GoesOn, Takes, HasRead, IsNoLine}
 
 -- plain words behind the end of the options
-plain_goes : (words : List Word) → GoesOn words next.Plain (map plain words)
+plain_goes : (words : List Word) → GoesOn words Plain (map plain words)
 unfolding GoesOn
 plain_goes [] = refl
 plain_goes (w ∷ words) = (map plain words, refl, plain_goes words)
 
-plain_only : (words : List Word) (pieces : List Piece) → GoesOn words next.Plain pieces → pieces ≡ map plain words
+plain_only : (words : List Word) (pieces : List Piece) → GoesOn words Plain pieces → pieces ≡ map plain words
 unfolding GoesOn
 plain_only [] pieces h = h
 plain_only (w ∷ words) pieces h = h.1 ∙ ap (λ x. plain w ∷ x) (plain_only words h.0 h.2)
 
-end_goes : (later : Option (List Word)) → GoesOn (behind later) next.Any (plain_behind later)
+end_goes : (later : Option (List Word)) → GoesOn (behind later) Any (plain_behind later)
 unfolding GoesOn
 end_goes None = refl
 end_goes (Some later) = inl (refl, plain_goes later)
 
 -- a piece in front
-option_goes : (s : Setting) (v : Word) (first rest : List Word) (more : List Piece) → IsWritten (option s v) first → GoesOn rest next.Any more → GoesOn (first ++ rest) next.Any (option s v ∷ more)
+option_goes : (s : Setting) (v : Word) (first rest : List Word) (more : List Piece) → IsWritten (option s v) first → GoesOn rest Any more → GoesOn (first ++ rest) Any (option s v ∷ more)
 unfolding GoesOn
 option_goes s v first rest more (inl p) h =
-    subst (λ (f : List Word). GoesOn (f ++ rest) next.Any (option s v ∷ more)) (sym p.0) (inr (inl (s, refl, (p.1, (more, refl, h)))))
+    subst (λ (f : List Word). GoesOn (f ++ rest) Any (option s v ∷ more)) (sym p.0) (inr (inl (s, refl, (p.1, (more, refl, h)))))
 option_goes s v first rest more (inr p) h =
-    subst (λ (f : List Word). GoesOn (f ++ rest) next.Any (option s v ∷ more)) (sym p) (inr (inr (inl (s, v, more, refl, refl, h))))
+    subst (λ (f : List Word). GoesOn (f ++ rest) Any (option s v ∷ more)) (sym p) (inr (inr (inl (s, v, more, refl, refl, h))))
 
-piece_goes : (piece : Piece) (first rest : List Word) (more : List Piece) → IsWritten piece first → GoesOn rest next.Any more → GoesOn (first ++ rest) next.Any (piece ∷ more)
+piece_goes : (piece : Piece) (first rest : List Word) (more : List Piece) → IsWritten piece first → GoesOn rest Any more → GoesOn (first ++ rest) Any (piece ∷ more)
 unfolding GoesOn
 piece_goes (option s v) first rest more p h = option_goes s v first rest more p h
 piece_goes (plain w) first rest more p h =
-    subst (λ (f : List Word). GoesOn (f ++ rest) next.Any (plain w ∷ more)) (sym p.0) (inr (inr (inr (p.1, (more, refl, h)))))
+    subst (λ (f : List Word). GoesOn (f ++ rest) Any (plain w ∷ more)) (sym p.0) (inr (inr (inr (p.1, (more, refl, h)))))
 
-front_goes : (before : List Piece) (front : List Word) (later : Option (List Word)) → AreWritten before front → GoesOn (front ++ behind later) next.Any (before ++ plain_behind later)
+front_goes : (before : List Piece) (front : List Word) (later : Option (List Word)) → AreWritten before front → GoesOn (front ++ behind later) Any (before ++ plain_behind later)
 unfolding AreWritten
-front_goes [] front later h = subst (λ (f : List Word). GoesOn (f ++ behind later) next.Any (plain_behind later)) (sym h) (end_goes later)
+front_goes [] front later h = subst (λ (f : List Word). GoesOn (f ++ behind later) Any (plain_behind later)) (sym h) (end_goes later)
 front_goes (piece ∷ before) front later h =
     let goes = piece_goes piece h.0 (h.1 ++ behind later) (before ++ plain_behind later) h.3 (front_goes before h.1 later h.4) in
     let same : front ++ behind later ≡ h.0 ++ (h.1 ++ behind later) = ap (λ f. f ++ behind later) h.2 ∙ append_assoc h.0 h.1 (behind later) in
-    subst (λ (f : List Word). GoesOn f next.Any (piece ∷ (before ++ plain_behind later))) (sym same) goes
+    subst (λ (f : List Word). GoesOn f Any (piece ∷ (before ++ plain_behind later))) (sym same) goes
 
 -- a line is read
-pub line_goes : (words : List Word) (pieces : List Piece) → IsCommandLine words pieces → GoesOn words next.Any pieces
+pub line_goes : (words : List Word) (pieces : List Piece) → IsCommandLine words pieces → GoesOn words Any pieces
 line_goes words pieces line =
-    subst (λ (w : List Word). GoesOn w next.Any pieces) (sym line.whole) (subst (λ (p : List Piece). GoesOn (line.front ++ behind line.later) next.Any p) (sym line.all) (front_goes line.before line.front line.later line.written))
+    subst (λ (w : List Word). GoesOn w Any pieces) (sym line.whole) (subst (λ (p : List Piece). GoesOn (line.front ++ behind line.later) Any p) (sym line.all) (front_goes line.before line.front line.later line.written))
 
 -- what is read is a line
 empty_line : (pieces : List Piece) → pieces ≡ [] → IsCommandLine [] pieces
@@ -72,10 +71,10 @@ line_more piece first rest words more pieces written e p line = record {
 
 -- both ways to go on at once: with any word, and with the value of an option that stands before
 record AreLines (words : List Word) : Type 0 where
-  any : (pieces : List Piece) → GoesOn words next.Any pieces → IsCommandLine words pieces
-  value : (s : Setting) (w : Word) (pieces : List Piece) → w ≡ option_name s → GoesOn words (next.Value s) pieces → IsCommandLine (w ∷ words) pieces
+  any : (pieces : List Piece) → GoesOn words Any pieces → IsCommandLine words pieces
+  value : (s : Setting) (w : Word) (pieces : List Piece) → w ≡ option_name s → GoesOn words (Value s) pieces → IsCommandLine (w ∷ words) pieces
 
-any_line : (w : Word) (words : List Word) (pieces : List Piece) → AreLines words → GoesOn (w ∷ words) next.Any pieces → IsCommandLine (w ∷ words) pieces
+any_line : (w : Word) (words : List Word) (pieces : List Piece) → AreLines words → GoesOn (w ∷ words) Any pieces → IsCommandLine (w ∷ words) pieces
 unfolding GoesOn
 any_line w words pieces rest (inl p) = end_line w words pieces p.0 (plain_only words pieces p.1)
 any_line w words pieces rest (inr (inl p)) = rest.value p.0 w pieces p.1 p.2
@@ -84,16 +83,16 @@ any_line w words pieces rest (inr (inr (inl p))) =
 any_line w words pieces rest (inr (inr (inr p))) =
     line_more (plain w) (w ∷ []) words (w ∷ words) p.1.0 pieces (refl, p.0) refl p.1.1 (rest.any p.1.0 p.1.2)
 
-value_line : (s : Setting) (name v : Word) (words : List Word) (pieces : List Piece) → AreLines words → name ≡ option_name s → GoesOn (v ∷ words) (next.Value s) pieces → IsCommandLine (name ∷ v ∷ words) pieces
+value_line : (s : Setting) (name v : Word) (words : List Word) (pieces : List Piece) → AreLines words → name ≡ option_name s → GoesOn (v ∷ words) (Value s) pieces → IsCommandLine (name ∷ v ∷ words) pieces
 unfolding GoesOn
 value_line s name v words pieces rest e h =
     line_more (option s v) (name ∷ v ∷ []) words (name ∷ v ∷ words) h.1.0 pieces (inl (ap (λ x. x ∷ v ∷ []) e, h.0)) refl h.1.1 (rest.any h.1.0 h.1.2)
 
-no_value : (s : Setting) (pieces : List Piece) → GoesOn [] (next.Value s) pieces → ⊥
+no_value : (s : Setting) (pieces : List Piece) → GoesOn [] (Value s) pieces → ⊥
 unfolding GoesOn
 no_value s pieces h = h
 
-no_words : (pieces : List Piece) → GoesOn [] next.Any pieces → pieces ≡ []
+no_words : (pieces : List Piece) → GoesOn [] Any pieces → pieces ≡ []
 unfolding GoesOn
 no_words pieces h = h
 
@@ -107,7 +106,7 @@ are_lines (w ∷ words) = record {
   value = λ s name pieces e h. value_line s name w words pieces (are_lines words) e h;
 }
 
-pub goes_is_line : (words : List Word) (pieces : List Piece) → GoesOn words next.Any pieces → IsCommandLine words pieces
+pub goes_is_line : (words : List Word) (pieces : List Piece) → GoesOn words Any pieces → IsCommandLine words pieces
 goes_is_line words = (are_lines words).any
 
 -- one word more
@@ -120,7 +119,7 @@ read_more words done w rest before behind pieces read takes = record {
       (next.0, there.1 ∙ ap (λ x. done ++ x) next.1 ∙ sym (append_assoc done pieces next.0), next.2);
 }
 
-pub read_none : (words : List Word) → HasRead words [] words next.Any
+pub read_none : (words : List Word) → HasRead words [] words Any
 read_none words = record { sound = λ more h. h; whole = λ all h. (all, refl, h) }
 
 -- a word that nothing can be made of, and an option without its value
@@ -128,33 +127,23 @@ pub stopped : (words : List Word) (done : List Piece) (w : Word) (rest : List Wo
 stopped words done w rest before read stops pieces line =
     let there = read.whole pieces (line_goes words pieces line) in stops rest there.0 there.2
 
-pub stopped_at_end : (words : List Word) (done : List Piece) (s : Setting) → HasRead words done [] (next.Value s) → IsNoLine words
+pub stopped_at_end : (words : List Word) (done : List Piece) (s : Setting) → HasRead words done [] (Value s) → IsNoLine words
 stopped_at_end words done s read pieces line =
     let there = read.whole pieces (line_goes words pieces line) in no_value s there.0 there.2
 
 -- the words are at their end
 ended : (words : List Word) (done : List Piece) (behind : Next) → HasRead words done [] behind → GoesOn [] behind [] → ((more : List Piece) → GoesOn [] behind more → more ≡ []) → IsOnlyLine words done
 ended words done behind read goes only = record {
-  line = goes_is_line words done (subst (λ (p : List Piece). GoesOn words next.Any p) (append-nil done) (read.sound [] goes));
+  line = goes_is_line words done (subst (λ (p : List Piece). GoesOn words Any p) (append-nil done) (read.sound [] goes));
   alone = λ other line.
       let there = read.whole other (line_goes words other line) in
       there.1 ∙ ap (λ x. done ++ x) (only there.0 there.2) ∙ append-nil done;
 }
 
-pub ended_any : (words : List Word) (done : List Piece) → HasRead words done [] next.Any → IsOnlyLine words done
+pub ended_any : (words : List Word) (done : List Piece) → HasRead words done [] Any → IsOnlyLine words done
 unfolding GoesOn
-ended_any words done read = ended words done next.Any read refl (λ more h. h)
+ended_any words done read = ended words done Any read refl (λ more h. h)
 
-pub ended_plain : (words : List Word) (done : List Piece) → HasRead words done [] next.Plain → IsOnlyLine words done
+pub ended_plain : (words : List Word) (done : List Piece) → HasRead words done [] Plain → IsOnlyLine words done
 unfolding GoesOn
-ended_plain words done read = ended words done next.Plain read refl (λ more h. h)
-
--- the rest of a list that is mapped, at an item of it and at its end
-pub rest_from : {A B : Type 0} (f : A → B) (xs : List A) (i : ℕ) (d : A) → i < length xs → map f (drop i xs) ≡ f (get_or xs i d) ∷ map f (drop (i + 1) xs)
-rest_from f xs i d lt = ap (map f) (drop-cons xs i d lt) ∙ ap (λ k. f (get_or xs i d) ∷ map f (drop k xs)) (sym (add-one i))
-
-pub rest_at : {A B : Type 0} (f : A → B) (xs : List A) (i : ℕ) (x : A) → i < length xs → x ≡ get_or xs i x → map f (drop i xs) ≡ f x ∷ map f (drop (i + 1) xs)
-rest_at f xs i x lt e = rest_from f xs i x lt ∙ ap (λ t. f t ∷ map f (drop (i + 1) xs)) (sym e)
-
-pub rest_at_end : {A B : Type 0} (f : A → B) (xs : List A) (i : ℕ) → length xs ≤ i → map f (drop i xs) ≡ []
-rest_at_end f xs i le = ap (map f) (drop_all i xs le)
+ended_plain words done read = ended words done Plain read refl (λ more h. h)

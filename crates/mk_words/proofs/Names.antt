@@ -1,7 +1,7 @@
 -- The words that name options are told apart by their third byte.
 use Rattle.std.proofs.Common.{◌≡◌, ◌≢◌, ◌<◌, ℕ, length, get_or, refl, sym, ap, ◌∙◌, arith}
-use Rattle.mk_words.specs.declared.kinds.Setting.{Setting}
-use Rattle.mk_words.specs.declared.kinds.Setting.TheVariants.{Workers, Budget, Upto, Model}
+use Rattle.mk_words.specs.declared.options.Setting.{Setting}
+use Rattle.mk_words.specs.declared.options.Setting.TheVariants.{Workers, Budget, Upto, Model}
 use Rattle.mk_words.specs.Words.{Word, option_name, with_value, end_of_options, IsOptionWord}
 
 letter : Setting → ℕ

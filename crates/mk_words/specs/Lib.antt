@@ -1,6 +1,5 @@
 pub mod Words
-pub mod Kinds
-pub mod Reading
 pub mod SmallSizes
 pub mod Requests
 pub mod Found
+pub mod Given

@@ -3,8 +3,8 @@ use Rattle.std.specs.Prelude.{◌≡◌, ◌⊎◌, ℕ, ◌<◌, ◌≤◌, Boo
 use Rattle.std.specs.List.{AllZip, flat_map}
 use Rattle.std.specs.Str.Parse.{digits_value}
 use Rattle.mk_model.specs.Tables.{AreDigits}
-use Rattle.mk_words.specs.declared.kinds.Setting.{Setting}
-use Rattle.mk_words.specs.declared.kinds.Setting.TheVariants.{Workers, Budget, Upto, Model}
+use Rattle.mk_words.specs.declared.options.Setting.{Setting}
+use Rattle.mk_words.specs.declared.options.Setting.TheVariants.{Workers, Budget, Upto, Model}
 use Rattle.mk_words.specs.declared.request.Request.{Request}
 use Rattle.mk_words.specs.declared.request.Task.{Task}
 use Rattle.mk_words.specs.declared.request.Task.TheVariants as task

@@ -1,8 +1,8 @@
 -- The words of the command line, as lists of bytes, and the pieces that they are: options with their values, and plain
 -- words.
 use Rattle.std.specs.Prelude.{◌≡◌, ◌⊎◌, ℕ, ◌≤◌, List, [], ◌∷◌, ◌++◌, length, map, Option, Some, None, slice_get, codes}
-use Rattle.mk_words.specs.declared.kinds.Setting.{Setting}
-use Rattle.mk_words.specs.declared.kinds.Setting.TheVariants.{Workers, Budget, Upto, Model}
+use Rattle.mk_words.specs.declared.options.Setting.{Setting}
+use Rattle.mk_words.specs.declared.options.Setting.TheVariants.{Workers, Budget, Upto, Model}
 
 abbrev pub Word : Type 0
 Word = List ℕ

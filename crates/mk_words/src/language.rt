@@ -1,14 +1,14 @@
 //! Reading the words of the command line.
 
 ghost use Rattle.std.specs.Prelude.{◌≡◌, ◌↔◌, ◌∷◌, [], ℕ, List, Option, map, string_bytes, IsTrue, IfOk, IfSome, IfNone, IsErrOf, MatchOption};
-ghost use Rattle.mk_words.specs.Reading.{piece_of};
-ghost use Rattle.mk_words.specs.Requests.{values_of, plains_of, IsChosen, IsBound, IsTask, IsNumberIn, AreSizes, WriteSizes, Asks, IsRequest, IsOnlyRequest, AreWrong, WantOne};
+ghost use Rattle.mk_words.specs.Given.{given, plains_given, AskFor};
+ghost use Rattle.mk_words.specs.Requests.{IsChosen, IsBound, IsTask, IsNumberIn, AreSizes, WriteSizes, IsRequest, IsOnlyRequest, AreWrong, WantOne};
 
-use crate::kinds::Setting;
 use crate::numbers::{cut_at_cross, number_in};
-use crate::pieces::{Part, parts_of};
+use crate::options::Setting;
+use crate::parser::{parse, plain_given, value_given};
 use crate::request::{ProjectName, Request, Sizes, Task, UsageFault};
-use crate::values::{Repeated, plain_given, value_given};
+use clap::ArgMatches;
 use mk_model::NoMemory;
 use std::alloc::Global;
 
@@ -17,34 +17,32 @@ const MOST_CELLS: u32 = 512;
 
 /// The number of the option, from `least` to `most`, or the default where it is not given.
 fn number_given(
-    parts: &[Part<'_>],
+    matches: &ArgMatches<'_>,
     setting: Setting,
     least: u64,
     most: u64,
     default: u64,
 ) -> Option<u64>
-    ensures some { IfSome result (IsChosen least most default (values_of setting (map piece_of parts.now))) }
-    ensures none { IfNone result ((n : ℕ) → IsChosen least most default (values_of setting (map piece_of parts.now)) n → ⊥) }
+    ensures some { IfSome result (IsChosen least most default (given setting matches.now)) }
+    ensures none { IfNone result ((n : ℕ) → IsChosen least most default (given setting matches.now) n → ⊥) }
 {
-    match value_given(parts, setting) {
-        Ok(Some(value)) => number_in(value, least, most),
-        Ok(None) => Some(default),
-        Err(Repeated) => None,
+    match value_given(matches, setting) {
+        Some(value) => number_in(value.as_bytes(), least, most),
+        None => Some(default),
     }
 }
 
 /// The bound of the weights, or none where it is not given.
-fn bound_given(parts: &[Part<'_>]) -> Option<Option<u64>>
-    ensures some { IfSome result (IsBound 18446744073709551615 (values_of Setting.Upto (map piece_of parts.now))) }
-    ensures none { IfNone result ((n : Option ℕ) → IsBound 18446744073709551615 (values_of Setting.Upto (map piece_of parts.now)) n → ⊥) }
+fn bound_given(matches: &ArgMatches<'_>) -> Option<Option<u64>>
+    ensures some { IfSome result (IsBound 18446744073709551615 (given Setting.Upto matches.now)) }
+    ensures none { IfNone result ((n : Option ℕ) → IsBound 18446744073709551615 (given Setting.Upto matches.now) n → ⊥) }
 {
-    match value_given(parts, Setting::Upto) {
-        Ok(Some(value)) => match number_in(value, 0, u64::MAX) {
+    match value_given(matches, Setting::Upto) {
+        Some(value) => match number_in(value.as_bytes(), 0, u64::MAX) {
             Some(bound) => Some(Some(bound)),
             None => None,
         },
-        Ok(None) => Some(None),
-        Err(Repeated) => None,
+        None => Some(None),
     }
 }
 
@@ -139,44 +137,38 @@ fn project_task(alloc: Global, name: &str) -> Result<Task, UsageFault>
     }))
 }
 
-/// What the parts give to do.
-fn task_given(alloc: Global, parts: &[Part<'_>]) -> Result<Task, UsageFault>
-    ensures ok { IfOk result (IsTask (values_of Setting.Model (map piece_of parts.now)) (plains_of (map piece_of parts.now))) }
-    ensures words { IsErrOf result UsageFault.Words → (task : Task) → IsTask (values_of Setting.Model (map piece_of parts.now)) (plains_of (map piece_of parts.now)) task → ⊥ }
+/// What the values give to do.
+fn task_given(alloc: Global, matches: &ArgMatches<'_>) -> Result<Task, UsageFault>
+    ensures ok { IfOk result (IsTask (given Setting.Model matches.now) (plains_given matches.now)) }
+    ensures words { IsErrOf result UsageFault.Words → (task : Task) → IsTask (given Setting.Model matches.now) (plains_given matches.now) task → ⊥ }
 {
-    let Ok(model) = value_given(parts, Setting::Model) else {
-        return Err(UsageFault::Words);
-    };
-    let Ok(project) = plain_given(parts) else {
-        return Err(UsageFault::Words);
-    };
-    match model {
-        Some(value) => match project {
+    match value_given(matches, Setting::Model) {
+        Some(value) => match plain_given(matches) {
             Some(_) => Err(UsageFault::Words),
-            None => model_task(alloc, value),
+            None => model_task(alloc, value.as_bytes()),
         },
-        None => match project {
+        None => match plain_given(matches) {
             Some(name) => project_task(alloc, name),
             None => Err(UsageFault::Words),
         },
     }
 }
 
-/// What the parts ask for.
-fn request_of(alloc: Global, parts: &[Part<'_>]) -> Result<Request, UsageFault>
-    ensures ok { IfOk result (Asks (map piece_of parts.now)) }
-    ensures words { IsErrOf result UsageFault.Words → (request : Request) → Asks (map piece_of parts.now) request → ⊥ }
+/// What the values ask for.
+fn request_of(alloc: Global, matches: &ArgMatches<'_>) -> Result<Request, UsageFault>
+    ensures ok { IfOk result (AskFor (λ s. given s matches.now) (plains_given matches.now)) }
+    ensures words { IsErrOf result UsageFault.Words → (request : Request) → AskFor (λ s. given s matches.now) (plains_given matches.now) request → ⊥ }
 {
-    let Some(workers) = number_given(parts, Setting::Workers, 1, 64, 4) else {
+    let Some(workers) = number_given(matches, Setting::Workers, 1, 64, 4) else {
         return Err(UsageFault::Words);
     };
-    let Some(budget) = number_given(parts, Setting::Budget, 0, 100_000_000, 20_000_000) else {
+    let Some(budget) = number_given(matches, Setting::Budget, 0, 100_000_000, 20_000_000) else {
         return Err(UsageFault::Words);
     };
-    let Some(upto) = bound_given(parts) else {
+    let Some(upto) = bound_given(matches) else {
         return Err(UsageFault::Words);
     };
-    let task = task_given(alloc, parts)?;
+    let task = task_given(alloc, matches)?;
     Ok(Request {
         workers: workers as u32,
         budget,
@@ -195,10 +187,10 @@ pub fn read_words(alloc: Global, words: &[String]) -> Result<Request, UsageFault
     ensures only { IfOk result (IsOnlyRequest (map string_bytes words.now)) }
     ensures words { IsErrOf result UsageFault.Words → AreWrong (map string_bytes words.now) }
 {
-    let Some(parts) = parts_of(alloc, words)? else {
-        return Err(UsageFault::Words);
-    };
-    request_of(alloc, parts.as_slice())
+    match parse(alloc, words) {
+        Ok(matches) => request_of(alloc, &matches),
+        Err(fault) => Err(fault),
+    }
 }
 
 /// Are the words not in the language, or do they ask for one worker?

@@ -77,6 +77,8 @@ fn projects_are_asked_for(rt: HostRuntime) -> Result<(), Fail> {
             "--workers=3",
         ),
         (["--", "--"].as_slice(), (4, 20_000_000, None), "--"),
+        (["help"].as_slice(), (4, 20_000_000, None), "help"),
+        (["P=1"].as_slice(), (4, 20_000_000, None), "P=1"),
         (
             ["--workers", "1", "P"].as_slice(),
             (1, 20_000_000, None),
@@ -145,6 +147,10 @@ fn other_options_are_refused(rt: HostRuntime) -> Result<(), Fail> {
     assert_wrong(&rt, &["-P"])?;
     assert_wrong(&rt, &["--help"])?;
     assert_wrong(&rt, &["-h", "P"])?;
+    assert_wrong(&rt, &["--version"])?;
+    assert_wrong(&rt, &["-V", "P"])?;
+    assert_wrong(&rt, &["-\u{fc}", "P"])?;
+    assert_wrong(&rt, &["workers", "1", "P"])?;
     assert_wrong(&rt, &["--worker", "1", "P"])?;
     assert_wrong(&rt, &["--workersx=1", "P"])?;
     assert_wrong(&rt, &["--=1", "P"])
@@ -157,6 +163,9 @@ fn options_without_a_value_or_twice_are_refused(rt: HostRuntime) -> Result<(), F
     assert_wrong(&rt, &["--budget=1", "--budget", "1", "P"])?;
     assert_wrong(&rt, &["--workers", "--budget=1", "P"])?;
     assert_wrong(&rt, &["--workers", "--", "P"])?;
+    assert_wrong(&rt, &["P", "--workers", "--"])?;
+    assert_wrong(&rt, &["--workers=--", "P"])?;
+    assert_wrong(&rt, &["--workers==1", "P"])?;
     assert_wrong(&rt, &["--workers", "-1", "P"])
 }
 

@@ -124,7 +124,7 @@ fn a_refused_worker_halts_and_is_gone(rt: HostRuntime) -> Result<(), Fail> {
         (&[0, 1, 0][..], &[2][..], held, 2, 0, true, OVERLAPPING),
         (
             &[0, 1, 0, 0, 0][..],
-            &[2, 4][..],
+            &[4, 2][..],
             held,
             2,
             0,
@@ -132,7 +132,7 @@ fn a_refused_worker_halts_and_is_gone(rt: HostRuntime) -> Result<(), Fail> {
             OVERLAPPING,
         ),
         (&[0, 1, 1][..], &[0][..], None, 0, 0, true, OVERLAPPING),
-        (&[0, 1][..], &[][..], held, 2, 0, false, OVERLAPPING),
+        (&[0, 1][..], &[2][..], held, 2, 0, false, OVERLAPPING),
         (
             &[0, 1, 0, 1, 1, 1, 1, 1][..],
             &[2][..],

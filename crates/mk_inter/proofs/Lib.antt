@@ -8,3 +8,4 @@ pub mod MovesSorted
 pub mod Permuted
 pub mod ReducedLists
 pub mod SameLattices
+pub mod Collected

@@ -6,4 +6,4 @@ mod tail;
 mod tails;
 
 pub use mk_core::drop_redundant;
-pub use tails::{ReducedBasis, TailFault, reduce_tails};
+pub use tails::{ReducedBasis, TailFault, reduce_tails, reduce_tails_shared};

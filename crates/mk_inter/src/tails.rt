@@ -1,5 +1,6 @@
 ghost use Rattle.std.specs.Prelude.{◌≡◌, ◌<◌, ◌^◌, IfOk, IfErr, length, All};
 ghost use Rattle.std.specs.List.{AllZip};
+ghost use Rattle.mk_model.specs.CoreStates.{move_at};
 ghost use Rattle.mk_model.specs.Lattices.{SameLattice};
 ghost use Rattle.mk_model.specs.ReducedBases.{IsReducedBasis};
 ghost use Rattle.mk_move.specs.MoveLists.{lattice_spanned, BelongsTo, vectors_of};
@@ -13,8 +14,13 @@ use crate::tail::reduce_tail;
 use mk_core::{LeadFinder, SaturatedBasis, finder_of};
 use mk_model::NoMemory;
 use mk_move::{Basis, Move, OverflowAt};
+use rayon::prelude::*;
 use std::alloc::{AllocError, AllocFailed, Global};
 use std::marker::Model;
+use std::thread::Threads;
+
+/// How many tails are worth a thread of their own, at least.
+const LEAST_TAILS: usize = 64;
 
 /// Why tails can't be reduced: want of memory, or a column where an entry leaves the range, in a step on the tail of the move
 /// of an index, by the move of the place `by`, from the vector `operand`.
@@ -100,7 +106,38 @@ pub fn reduce_tails(alloc: Global, basis: &SaturatedBasis) -> Result<ReducedBasi
 {
     let basis = basis.basis();
     let finder = finder_of(alloc, basis)?;
-    let mut tails = all_tails(alloc, basis, &finder)?;
+    let tails = all_tails(alloc, basis, &finder)?;
+    Ok(reduced_of(basis, tails)?)
+}
+
+/// The reduced basis of the lattice, as `reduce_tails` gives it, with the tails reduced in several threads. Where the tails of
+/// several moves leave the range, the fault is one of them. (Sturmfels, chapter 1: the reduced basis)
+pub fn reduce_tails_shared<R: Threads + Sync>(
+    rt: &R,
+    alloc: Global,
+    basis: &SaturatedBasis,
+) -> Result<ReducedBasis, TailFault>
+    ensures reduced { IfOk result (λ reduced. IsReducedBasis (lattice_spanned basis.now) (vectors_of reduced.moves)) }
+    ensures lattice { IfOk result (λ reduced. SameLattice (length basis.now.grading) (vectors_of basis.now.moves) (vectors_of reduced.moves)) }
+    ensures grading { IfOk result (λ reduced. reduced.grading ≡ basis.now.grading) }
+    ensures kept { IfOk result IsReducedList }
+    ensures refused { IfErr result (IsTailFault basis.now) }
+{
+    let basis = basis.basis();
+    let finder = finder_of(alloc, basis)?;
+    let tails = shared_tails(rt, alloc, basis, &finder)?;
+    Ok(reduced_of(basis, tails)?)
+}
+
+/// The reduced basis whose moves are those of a saturated basis with their tails reduced: they are put in their order.
+fn reduced_of(basis: &Basis, mut tails: Vec<Move>) -> Result<ReducedBasis, NoMemory>
+    requires saturated { IsSaturated basis.now }
+    requires tails { AllZip (IsReducedFrom basis.now) (vectors_of basis.now.moves) tails.items }
+    ensures reduced { IfOk result (λ reduced. IsReducedBasis (lattice_spanned basis.now) (vectors_of reduced.moves)) }
+    ensures lattice { IfOk result (λ reduced. SameLattice (length basis.now.grading) (vectors_of basis.now.moves) (vectors_of reduced.moves)) }
+    ensures grading { IfOk result (λ reduced. reduced.grading ≡ basis.now.grading) }
+    ensures kept { IfOk result IsReducedList }
+{
     sort_moves(&mut tails)?;
     let reduced = basis_of(basis, tails)?;
     Ok(ReducedBasis { basis: reduced })
@@ -119,6 +156,34 @@ fn all_tails(alloc: Global, basis: &Basis, finder: &LeadFinder) -> Result<Vec<Mo
         tails.push(tail)?;
     }
     Ok(tails)
+}
+
+/// The moves of a saturated basis, each with its tail reduced by one of several threads, in their order.
+fn shared_tails<R: Threads + Sync>(
+    rt: &R,
+    alloc: Global,
+    basis: &Basis,
+    finder: &LeadFinder,
+) -> Result<Vec<Move>, TailFault>
+    requires saturated { IsSaturated basis.now }
+    requires leads { finder.now ≡ leads_of basis.now.moves }
+    ensures reduced { IfOk result (λ tails. AllZip (IsReducedFrom basis.now) (vectors_of basis.now.moves) tails.items) }
+    ensures refused { IfErr result (IsTailFault basis.now) }
+{
+    let tails: Result<Vec<Move>, TailFault> = (0..basis.len())
+        .into_par_iter()
+        .with_min_len(LEAST_TAILS)
+        .map(
+            |index: u32| -> Result<Move, TailFault>
+                requires saturated { IsSaturated basis.now }
+                requires leads { finder.now ≡ leads_of basis.now.moves }
+                requires of_list { index < length basis.now.moves }
+                ensures reduced { IfOk result (IsReducedFrom basis.entry.now (move_at (vectors_of basis.entry.now.moves) index)) }
+                ensures refused { IfErr result (IsTailFault basis.entry.now) }
+            { reduce_tail(alloc, basis, finder, index) },
+        )
+        .collect(rt, alloc)?;
+    tails
 }
 
 /// A basis with these moves, and the list and the grading of another.

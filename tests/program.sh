@@ -13,12 +13,13 @@ trap 'umount "$folder" 2>/dev/null; rm -rf "$work"' EXIT
 folder=$work/folder
 errors=$work/err
 limit=
+summary=
 as=()
 older='7 7\nan older answer\n'
 passed=0
 failed=0
 
-usage='usage: markov [--workers N] [--budget N] PROJECT or markov [--workers N] [--budget N] --model RxC[xD]'
+usage='usage: markov [--workers N] [--budget N] [--upto W] PROJECT or markov [--workers N] [--budget N] [--upto W] --model RxC[xD]'
 failed_line='markov: a file or stream failed'
 
 # An empty folder for the next case.
@@ -58,8 +59,8 @@ made() {
 }
 
 # Runs the program on the words behind the first three: the name of the case, the status, and the line on standard
-# error, or nothing. Standard error goes to $errors, or is closed where that is -, no file grows past $limit KiB, and $as are the words
-# that run it as another user or under a tracer.
+# error, or nothing. Standard output is to have $summary. Standard error goes to $errors, or is closed where that is -, no file grows past
+# $limit KiB, and $as are the words that run it as another user or under a tracer.
 ends() {
     local name=$1 status=$2 line=$3 faults=() got file
     shift 3
@@ -76,7 +77,7 @@ ends() {
     ) >"$work/out" </dev/null
     got=$?
     [ "$got" -eq "$status" ] || faults+=("status $got for $status")
-    [ ! -s "$work/out" ] || faults+=("something on standard output")
+    printf -- "$summary" | cmp -s "$work/out" - || faults+=("other text on standard output: $(cat "$work/out")")
     cmp -s "$work/err" "$work/err.want" || faults+=("other text on standard error: $(cat "$work/err")")
     for file in "${wanted[@]}"; do
         diff -r --no-dereference "$folder/$file" "$work/want.$file" >/dev/null 2>&1 || faults+=("$file is other")
@@ -139,6 +140,69 @@ fresh
 given -P.lat '1 2\n2 -2\n'
 made -P.mar '1 2\n2 -2\n'
 ends 'a project like an option' 0 '' -- -P
+
+# Words that are refused, and touch no file.
+refuses_words() {
+    fresh
+    given P.lat '1 2\n2 -2\n'
+    ends "no request: $*" 1 "$usage" "$@"
+}
+refuses_words --workers 0 P
+refuses_words --workers 65 P
+refuses_words --budget 100000001 P
+refuses_words --upto 18446744073709551616 P
+refuses_words --upto -1 P
+refuses_words --upto=-1 P
+refuses_words --model 2x2 P
+refuses_words --model 17x2
+refuses_words --model 16x16x3
+refuses_words --model 8x8x9
+refuses_words --workers 1 --workers 1 P
+refuses_words --workers 1 --workers=1 P
+refuses_words --budget --upto 2 P
+refuses_words --help
+fresh
+given -P.lat '1 2\n2 -2\n'
+made -P.mar '1 2\n2 -2\n'
+ends 'three workers and a project like an option' 0 '' --workers=03 -- -P
+
+# Budgets and bounds.
+fresh
+given P.lat '2 4\n1 -2 1 0\n0 1 -2 1\n'
+ends 'no budget' 5 'markov: budget of 0 pairs used and a pair is left' --budget 0 P
+fresh
+given P.lat '1 2\n1 -1\n'
+made P.mar '1 2\n1 -1\n'
+ends 'no budget, and no pair' 0 '' --budget 0 P
+bounded() {
+    fresh
+    given P.lat '2 3\n1 -2 1\n3 -1 -1\n'
+    given P.grade '1 3\n3 4 5\n'
+    made P.mar "$2"
+    ends "the curve 3 4 5 up to $1" 0 '' --upto "$1" P
+}
+bounded 9 '2 3\n-1 2 -1\n3 -1 -1\n'
+bounded 10 '3 3\n-1 2 -1\n3 -1 -1\n2 1 -2\n'
+bounded 7 '0 3\n'
+
+# Made tables with their summary.
+summarises() {
+    fresh
+    given P.mar 'kept\n'
+    summary=$1
+    shift
+    ends "the summary of $*" 0 '' "$@"
+    summary=
+}
+summarises 'model 2x2\nrows 1 columns 4\nmoves 1\nweight 2 moves 1\n' --model 2x2
+summarises 'model 2x2\nrows 1 columns 4\nmoves 0\n' --model 2x2 --upto 1
+summarises 'model 4x4\nrows 9 columns 16\nmoves 36\nweight 2 moves 36\n' --model 4x4
+summarises 'model 5x5\nrows 16 columns 25\nmoves 100\nweight 2 moves 100\n' --model 5x5
+summarises 'model 6x6\nrows 25 columns 36\nmoves 225\nweight 2 moves 225\n' --model 6x6 --budget 100000000
+summarises 'model 3x3x3\nrows 8 columns 27\nmoves 81\nweight 4 moves 27\nweight 6 moves 54\n' --model 3x3x3
+summarises 'model 3x3x3\nrows 8 columns 27\nmoves 27\nweight 4 moves 27\n' --model 3x3x3 --upto 4
+fresh
+ends 'a made table without a budget' 5 'markov: budget of 0 pairs used and a pair is left' --model 3x3 --budget 0
 
 # Files that no table is meant to be, each refused in one line.
 refuses '' 'markov: P.lat: line 1, byte 0: 0 of 2 header numbers'

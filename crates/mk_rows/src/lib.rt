@@ -8,6 +8,8 @@ mod folders;
 #[cfg(test)]
 mod projects;
 #[cfg(test)]
+mod requests;
+#[cfg(test)]
 mod runs;
 #[cfg(test)]
 mod words;

@@ -30,8 +30,7 @@ pub(crate) struct Ended {
     pub(crate) book: RunBook,
 }
 
-// Runs on the words over files with these names and texts, in a folder that moves so many bytes a call and where the calls with
-// these numbers fail. The run ends with this status, says this on the error channel alone, and leaves these files and no other.
+// A run as below, that says nothing on the out channel.
 pub(crate) fn assert_run(
     rt: &(impl Abort + AllocGlobal),
     words: &[&str],
@@ -39,6 +38,22 @@ pub(crate) fn assert_run(
     chunk: usize,
     failing: &[u64],
     wanted: (Status, &str),
+    after: &[(&str, &str)],
+) -> Result<Ended, Fail> {
+    let (status, said) = wanted;
+    assert_saying(rt, words, files, chunk, failing, (status, said, ""), after)
+}
+
+// Runs on the words over files with these names and texts, in a folder that moves so many bytes a call and where the calls with
+// these numbers fail. The run ends with this status, says this on the error channel and this on the out channel, and leaves these
+// files and no other.
+pub(crate) fn assert_saying(
+    rt: &(impl Abort + AllocGlobal),
+    words: &[&str],
+    files: &[(&str, &str)],
+    chunk: usize,
+    failing: &[u64],
+    wanted: (Status, &str, &str),
     after: &[(&str, &str)],
 ) -> Result<Ended, Fail> {
     let alloc = rt.alloc();
@@ -50,7 +65,7 @@ pub(crate) fn assert_run(
     let mut folder = MemoryFolder::new(alloc, map_of(alloc, files)?, fails, chunk.max(1));
     let mut book = RunBook::new(alloc);
     let status = run_alone(alloc, &texts, &mut folder, &mut book);
-    let (status_wanted, said) = wanted;
+    let (status_wanted, said, out) = wanted;
     assert_eq!(rt;
         status,
         status_wanted,
@@ -61,7 +76,11 @@ pub(crate) fn assert_run(
         said.as_bytes(),
         "{words:?} over {files:?}"
     );
-    assert!(rt; folder.said(Channel::Out).is_empty());
+    assert_eq!(rt;
+        folder.said(Channel::Out),
+        out.as_bytes(),
+        "{words:?} over {files:?}"
+    );
     for (name, text) in after {
         assert_eq!(rt;
             folder.file(name),

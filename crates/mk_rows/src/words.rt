@@ -3,18 +3,24 @@ use mk_run::Status;
 use std::test::Fail;
 
 const USAGE: &str =
-    "usage: markov [--workers N] [--budget N] PROJECT or markov [--workers N] [--budget N] --model RxC[xD]\n";
+    "usage: markov [--workers N] [--budget N] [--upto W] PROJECT or markov [--workers N] [--budget N] [--upto W] --model RxC[xD]\n";
 
-// Words with the files of the project that they name; or, where the last is empty, words that name none: then saying so is the
-// only call. Of those with options that aren't there yet each stays refused when they are.
+// Words with the files of the project that they ask for; or, where the last is empty, words that ask for nothing: then saying so is
+// the only call.
 #[test]
-fn words_name_a_project_or_none(rt: HostRuntime) -> Result<(), Fail> {
+fn words_ask_for_a_project_or_nothing(rt: HostRuntime) -> Result<(), Fail> {
     let rows = [
         (["P"].as_slice(), "P.lat", "P.mar"),
         (["P", "--"].as_slice(), "P.lat", "P.mar"),
         (["--", "P"].as_slice(), "P.lat", "P.mar"),
         (["--", "-P"].as_slice(), "-P.lat", "-P.mar"),
         (["-"].as_slice(), "-.lat", "-.mar"),
+        (["--workers=03", "--", "-P"].as_slice(), "-P.lat", "-P.mar"),
+        (
+            ["P", "--budget", "0", "--upto=2"].as_slice(),
+            "P.lat",
+            "P.mar",
+        ),
         ([].as_slice(), "P.lat", ""),
         (["P", "Q"].as_slice(), "P.lat", ""),
         ([""].as_slice(), ".lat", ""),
@@ -27,6 +33,12 @@ fn words_name_a_project_or_none(rt: HostRuntime) -> Result<(), Fail> {
         (["--workers", "0", "P"].as_slice(), "P.lat", ""),
         (["--workers", "65", "P"].as_slice(), "P.lat", ""),
         (["--budget", "100000001", "P"].as_slice(), "P.lat", ""),
+        (
+            ["--upto", "18446744073709551616", "P"].as_slice(),
+            "P.lat",
+            "",
+        ),
+        (["--upto", "-1", "P"].as_slice(), "P.lat", ""),
         (["--model", "2x2", "P"].as_slice(), "P.lat", ""),
         (["--model", "17x2"].as_slice(), "P.lat", ""),
         (["--model", "16x16x3"].as_slice(), "P.lat", ""),

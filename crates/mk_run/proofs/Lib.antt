@@ -1,5 +1,7 @@
 pub mod Endings
 pub mod Refusals
+pub mod Models
+pub mod Found
 pub mod Solved
 pub mod Decided
-pub mod WordsNamed
+pub mod Unread

@@ -1,5 +1,5 @@
-pub mod Words
 pub mod Statuses
 pub mod Lines
+pub mod Asked
 pub mod Runs
 pub mod Stages

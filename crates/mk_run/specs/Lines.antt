@@ -7,11 +7,14 @@ use Rattle.mk_project.specs.declared.fault.InputFault.{InputFault}
 use Rattle.mk_solve.specs.Books.{Book}
 use Rattle.mk_solve.specs.declared.book.BookStop.{BookStop}
 use Rattle.mk_solve.specs.declared.book.BookStop.TheVariants as why
+use Rattle.mk_words.specs.declared.request.Task.{Task}
+use Rattle.mk_words.specs.declared.request.Task.TheVariants.{Project, Model}
 use Rattle.mk_run.specs.declared.lines.Line.{Line}
 use Rattle.mk_run.specs.declared.lines.Line.TheVariants.{Folder, Memory, Made}
 
 abbrev pub usage_line : List ℕ
-usage_line = codes "usage: markov [--workers N] [--budget N] PROJECT or markov [--workers N] [--budget N] --model RxC[xD]\n"
+usage_line =
+    codes "usage: markov [--workers N] [--budget N] [--upto W] PROJECT or markov [--workers N] [--budget N] [--upto W] --model RxC[xD]\n"
 
 abbrev pub folder_line : List ℕ
 folder_line = codes "markov: a file or stream failed\n"
@@ -37,11 +40,16 @@ stop_line (why.Overflow place stop) = overflow_line stop.at
 stop_line (why.Budget settled) = budget_line settled
 stop_line (why.BasisFull phase i j) = full_line
 
--- the lines that a run may say for this project: those of its book's fault and stop, and two more
-abbrev pub IsLine : List ℕ → Book → List ℕ → Type 0
-IsLine project book line =
+-- the line for a fault of the project's files
+abbrev pub IsInputLine : Task → InputFault → List ℕ → Type 0
+IsInputLine (Project name) fault line = line ≡ input_line name fault
+IsInputLine (Model sizes) fault line = ⊥
+
+-- the lines that a run may say for what it is asked for: those of its book's fault and stop, and two more
+abbrev pub IsLine : Task → Book → List ℕ → Type 0
+IsLine task book line =
     (line ≡ folder_line) ⊎ (line ≡ memory_line)
-    ⊎ ((fault : InputFault) × (book.input ≡ Some fault) × (line ≡ input_line project fault))
+    ⊎ ((fault : InputFault) × (book.input ≡ Some fault) × IsInputLine task fault line)
     ⊎ ((stop : BookStop) × (book.stop ≡ Some stop) × (line ≡ stop_line stop))
 
 -- the text of a line

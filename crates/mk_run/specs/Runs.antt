@@ -1,65 +1,61 @@
--- How a run ends. The headline is `WritesMarkovBasis`.
+-- How a run ends. The headline is `GivesMarkovBasis`.
 use Rattle.std.specs.Prelude.{◌≡◌, ◌⊎◌, ℕ, ◌+◌, ◌≤◌, List, ◌++◌, length, take, Option, Some, None, IfSome, ℤ, codes}
 use Rattle.std.specs.FinMap.{insert}
 use Rattle.std.specs.Option.{option_map}
 use Rattle.mk_model.specs.Bases.{IsMinimalMarkovBasis}
 use Rattle.mk_model.specs.Books.{BookIsComplete, BookIsUnderWay, HasStopped, IsBudgetUsed, IsNoOtherStop}
-use Rattle.mk_model.specs.ChosenGradings.{IsGradingOf}
 use Rattle.mk_model.specs.Lattices.{Lattice, nonzero_rows}
 use Rattle.mk_model.specs.Tables.{lattice_of_table, Grid, rows_of}
 use Rattle.mk_model.specs.Texts.{move_text}
-use Rattle.mk_desk.specs.Folders.{Desk, State, Rose}
+use Rattle.mk_desk.specs.Folders.{Desk, Files, State, OnlyFaultsRose, Rose}
 use Rattle.mk_desk.specs.declared.folder.Found.TheVariants.{Absent}
-use Rattle.mk_project.specs.Lines.{input_line}
 use Rattle.mk_project.specs.declared.file.InputFile.{InputFile}
 use Rattle.mk_project.specs.declared.file.TheConstants.{FILE_LIMIT}
 use Rattle.mk_project.specs.declared.fault.InputFault.{InputFault}
 use Rattle.mk_project.specs.declared.fault.InputFault.TheVariants.{FileSize}
-use Rattle.mk_input.specs.Projects.{ProjectFiles, project_files, IsProblem, IsFaulty}
+use Rattle.mk_input.specs.Projects.{project_files, IsProblem}
 use Rattle.mk_input.specs.Readings.{IsShownBy}
 use Rattle.mk_solve.specs.Books.{Book, empty_book, book_as, stop_as}
 use Rattle.mk_solve.specs.Solutions.{KeepsBases}
 use Rattle.mk_solve.specs.declared.book.BookStop.{BookStop}
-use Rattle.mk_run.specs.Lines.{IsLine, usage_line, folder_line, stop_line}
+use Rattle.mk_words.specs.declared.request.Request.{Request}
+use Rattle.mk_words.specs.declared.request.Task.{Task}
+use Rattle.mk_words.specs.declared.request.Task.TheVariants.{Project, Model}
+use Rattle.mk_run.specs.Asked.{IsOfProject, IsAsked, HasFault, ForLatticeOf, ForSomeLattice, model_lattice, model_summary}
+use Rattle.mk_run.specs.Lines.{IsInputLine, IsLine, usage_line, folder_line, memory_line, stop_line}
 use Rattle.mk_run.specs.Statuses.{status_of}
 use Rattle.mk_run.specs.declared.status.Status.{Status}
 use Rattle.mk_run.specs.declared.status.Status.TheVariants.{Done, Usage, Input, Folder, Overflow, Budget, Memory, Full}
-
--- how many pairs a run may settle
-abbrev pub default_budget : ℕ
-default_budget = 20000000
 
 -- the name of the answer's file
 abbrev pub mar_name : List ℕ → List ℕ
 mar_name project = project ++ codes ".mar"
 
 -- ---- the answer
--- The headline. The files are the table of a lattice, and of a matrix and a grade where these are there, each read to its end, with the
--- grading that is chosen for them. Afterwards the files are those from before with the text of the lattice's minimal Markov basis
+-- The files are the table of a lattice, and of a matrix and a grade where these are there, each read to its end, with the grading that
+-- is chosen for them. Afterwards the files are those from before with the text of the lattice's minimal Markov basis up to the bound
 -- as the project's `.mar`, and nothing was said on either channel.
-pub record WritesMarkovBasis (project : List ℕ) (before after : Desk) : Type 0 where
+pub record WritesMarkovBasis (project : List ℕ) (upto : Option ℕ) (before after : Desk) : Type 0 where
   pub lat : Grid
   pub grading : List ℤ
   pub problem : IsProblem (project_files before.files project) lat grading
   pub moves : List (List ℤ)
-  pub basis : IsMinimalMarkovBasis (lattice_of_table lat grading) None moves
+  pub basis : IsMinimalMarkovBasis (lattice_of_table lat grading) upto moves
   pub files : after.files ≡ insert before.files (mar_name project) (move_text lat.columns moves)
   pub out : after.out ≡ before.out
   pub errors : after.errors ≡ before.errors
 
--- so it is for the lattice that the files are, with its grading
-pub record ForLatticeOf (files : ProjectFiles) (Fact : Lattice → Type 0) : Type 0 where
-  pub lat : Grid
-  pub grading : List ℤ
-  pub problem : IsProblem files lat grading
-  pub fact : Fact (lattice_of_table lat grading)
+-- The summary of the minimal Markov basis of the made table, up to the bound, was said on the out channel. Nothing else was said,
+-- and no file was changed or begun.
+pub record SaysMarkovBasis (sizes : List ℕ) (upto : Option ℕ) (before after : Desk) : Type 0 where
+  pub moves : List (List ℤ)
+  pub basis : IsMinimalMarkovBasis (model_lattice sizes) upto moves
+  pub change : after ≡ record before { rest = after.rest; out = before.out ++ model_summary sizes moves }
 
--- so it is for the lattice of some table, with a grading
-pub record ForSomeLattice (Fact : Lattice → Type 0) : Type 0 where
-  pub lat : Grid
-  pub grading : List ℤ
-  pub positive : IsGradingOf lat grading
-  pub fact : Fact (lattice_of_table lat grading)
+-- The headline: the minimal Markov basis of what is asked for, up to a bound, is written or said.
+abbrev pub GivesMarkovBasis : Task → Option ℕ → Desk → Desk → Type 0
+GivesMarkovBasis (Project name) upto before after = WritesMarkovBasis name upto before after
+GivesMarkovBasis (Model sizes) upto before after = SaysMarkovBasis sizes upto before after
 
 -- ---- what the book says of a lattice
 -- every phase is ended, and the reduced basis is made
@@ -72,14 +68,14 @@ pub record BookBegins (book : Book) (lattice : Lattice) : Type 0 where
   pub bases : KeepsBases lattice.grading book
   pub under_way : BookIsUnderWay lattice (book_as book)
 
--- the stop has its cause in the phases or in the reduced basis, within the budget of a run
-pub record BookStops (book : Book) (stop : BookStop) (lattice : Lattice) : Type 0 where
+-- the stop has its cause in the phases or in the reduced basis, within the budget
+pub record BookStops (budget : ℕ) (book : Book) (stop : BookStop) (lattice : Lattice) : Type 0 where
   pub bases : KeepsBases lattice.grading book
-  pub cause : HasStopped lattice default_budget (book_as book) (stop_as stop)
+  pub cause : HasStopped lattice budget (book_as book) (stop_as stop)
 
--- the book is complete for the lattice that the files are
-abbrev pub BooksProblem : ProjectFiles → Book → Type 0
-BooksProblem files book = ForLatticeOf files (BookCompletes book)
+-- the book is complete for the lattice that is asked for
+abbrev pub BooksProblem : Task → Files → Book → Type 0
+BooksProblem task files book = ForLatticeOf task files (BookCompletes book)
 
 -- ---- what each status is caused by, in what the book has and in what every folder has
 -- the empty book with a fault of the input
@@ -91,55 +87,70 @@ abbrev pub HasNeither : Book → Type 0
 HasNeither book = (book.input ≡ None) × (book.stop ≡ None)
 
 -- no fault and no stop, and the book is complete
-abbrev pub IsDone : Book → Type 0
-IsDone book = HasNeither book × ForSomeLattice (BookCompletes book)
+abbrev pub IsDone : Task → Book → Type 0
+IsDone task book = HasNeither book × ForSomeLattice task (BookCompletes book)
 
 -- no fault and no stop, and the phases that stand in the book are ended
-abbrev pub IsUnderWay : Book → Type 0
-IsUnderWay book = HasNeither book × ForSomeLattice (BookBegins book)
+abbrev pub IsUnderWay : Task → Book → Type 0
+IsUnderWay task book = HasNeither book × ForSomeLattice task (BookBegins book)
 
 -- no fault, and a stop with its cause
-abbrev pub HasItsStop : Book → BookStop → Type 0
-HasItsStop book stop = (book.input ≡ None) × (book.stop ≡ Some stop) × ForSomeLattice (BookStops book stop)
+abbrev pub HasItsStop : Request → Book → BookStop → Type 0
+HasItsStop request book stop = (book.input ≡ None) × (book.stop ≡ Some stop) × ForSomeLattice request.task (BookStops request.budget book stop)
 
 -- a stop of this status
-abbrev pub HasStopOf : Status → Book → Type 0
-HasStopOf status book = (stop : BookStop) × HasItsStop book stop × (status_of stop ≡ status)
+abbrev pub HasStopOf : Request → Status → Book → Type 0
+HasStopOf request status book = (stop : BookStop) × HasItsStop request book stop × (status_of stop ≡ status)
+
+-- a fault of a project's input, and nothing else
+abbrev pub HasFaultAlone : Task → Book → Type 0
+HasFaultAlone task book = IsOfProject task × ((fault : InputFault) × (book ≡ refused_book fault))
 
 -- The folder failed while the project was read, and the last `start_read` was not answered Absent; or it failed once the book was
 -- complete.
-abbrev pub HasFailedBook : Book → State → Type 0
-HasFailedBook book after = ((book ≡ empty_book) × ¬ (after.found ≡ Some Absent)) ⊎ IsDone book
+abbrev pub HasFailedBook : Task → Book → State → Type 0
+HasFailedBook task book after = (IsOfProject task × (book ≡ empty_book) × ¬ (after.found ≡ Some Absent)) ⊎ IsDone task book
 
 -- Nothing, or a fault alone, or phases that are ended and neither a fault nor a stop, or a stop with its cause.
-abbrev pub HasLeftBook : Book → Type 0
-HasLeftBook book =
-    (book ≡ empty_book) ⊎ ((fault : InputFault) × (book ≡ refused_book fault))
-    ⊎ IsUnderWay book ⊎ ((stop : BookStop) × HasItsStop book stop)
+abbrev pub HasLeftBook : Request → Book → Type 0
+HasLeftBook request book =
+    (book ≡ empty_book) ⊎ HasFaultAlone request.task book
+    ⊎ IsUnderWay request.task book ⊎ ((stop : BookStop) × HasItsStop request book stop)
 
--- Each status with its cause. Want of memory is free, but what the book then has has its cause. No file is left being made, but
--- where the folder failed or memory ran out.
-abbrev pub HasCauseOf : Book → State → State → Status → Type 0
-HasCauseOf book before after Done = IsDone book × (after.making ≡ before.making) × (after.faults ≡ before.faults)
-HasCauseOf book before after Usage = (book ≡ empty_book) × (after.making ≡ before.making)
-HasCauseOf book before after Input = ((fault : InputFault) × (book ≡ refused_book fault)) × (after.making ≡ before.making)
-HasCauseOf book before after Folder = HasFailedBook book after × Rose before.faults after.faults
-HasCauseOf book before after Overflow = HasStopOf Overflow book × (after.making ≡ before.making)
-HasCauseOf book before after Budget = HasStopOf Budget book × (after.making ≡ before.making)
-HasCauseOf book before after Memory = HasLeftBook book
-HasCauseOf book before after Full = HasStopOf Full book × (after.making ≡ before.making)
+-- Each status of a run on a request with its cause. Want of memory is free, but what the book then has has its cause. No file is left
+-- being made, but where the folder failed or memory ran out. A made table has no fault.
+abbrev pub HasCauseOf : Request → Book → State → State → Status → Type 0
+HasCauseOf request book before after Done = IsDone request.task book × (after.making ≡ before.making) × (after.faults ≡ before.faults)
+HasCauseOf request book before after Usage = ⊥
+HasCauseOf request book before after Input = HasFaultAlone request.task book × (after.making ≡ before.making)
+HasCauseOf request book before after Folder = HasFailedBook request.task book after × Rose before.faults after.faults
+HasCauseOf request book before after Overflow = HasStopOf request Overflow book × (after.making ≡ before.making)
+HasCauseOf request book before after Budget = HasStopOf request Budget book × (after.making ≡ before.making)
+HasCauseOf request book before after Memory = HasLeftBook request book
+HasCauseOf request book before after Full = HasStopOf request Full book × (after.making ≡ before.making)
 
 -- Where the budget was used and a pair of the last phase is left, the status says so, unless the run stopped by an entry out of range or a
 -- full basis, or memory ran out.
-abbrev pub EndsByBudget : Book → Status → Type 0
-EndsByBudget book status =
-    IsBudgetUsed default_budget (book_as book) → IsNoOtherStop (option_map stop_as book.stop) → (status ≡ Budget) ⊎ (status ≡ Memory)
+abbrev pub EndsByBudget : ℕ → Book → Status → Type 0
+EndsByBudget budget book status =
+    IsBudgetUsed budget (book_as book) → IsNoOtherStop (option_map stop_as book.stop) → (status ≡ Budget) ⊎ (status ≡ Memory)
 
--- Where the words name a project: the book's fault is as the folder showed it, and one byte more than a file may have was given
--- only where a file is too long, unless memory ran out.
+-- The book's fault is as the folder showed it, and one byte more than a file may have was given only where a file is too long,
+-- unless memory ran out.
 pub record InputIsShown (input : Option InputFault) (after : State) (status : Status) : Type 0 where
   pub faulty : (fault : InputFault) → input ≡ Some fault → IsShownBy after fault
   pub too_long : after.given ≡ FILE_LIMIT + 1 → ((file : InputFile) × (input ≡ Some (FileSize file (FILE_LIMIT + 1)))) ⊎ (status ≡ Memory)
+
+-- For a project the input is so shown; for a made table no file was touched.
+abbrev pub IsShownFor : Task → Option InputFault → State → State → Status → Type 0
+IsShownFor (Project name) input before after status = InputIsShown input after status
+IsShownFor (Model sizes) input before after status = OnlyFaultsRose before after
+
+-- The words are not read as a request: they aren't one, or memory ran out. The book stays empty, and no file was touched.
+pub record IsUnread (book : Book) (before after : State) (status : Status) : Type 0 where
+  pub empty : book ≡ empty_book
+  pub untouched : OnlyFaultsRose before after
+  pub ended : (status ≡ Usage) ⊎ (status ≡ Memory)
 
 -- ---- what a refusal says and leaves, in a folder that tells
 -- Only the line was said, on the error channel: all of it, or a front of it where the folder's faults rose. No file was
@@ -150,85 +161,105 @@ pub record SaysLine (line : List ℕ) (rose : Type 0) (before after : Desk) : Ty
   pub change : after ≡ record before { rest = after.rest; errors = before.errors ++ take count line }
 
 -- the book's fault is one that the project's files have, and only its line was said
-pub record RefusesInput (project : List ℕ) (book : Book) (rose : Type 0) (before after : Desk) : Type 0 where
+pub record RefusesInput (task : Task) (book : Book) (rose : Type 0) (before after : Desk) : Type 0 where
   pub fault : InputFault
   pub kept : book.input ≡ Some fault
-  pub faulty : IsFaulty (project_files before.files project) fault
-  pub line : SaysLine (input_line project fault) rose before after
+  pub faulty : HasFault task before.files fault
+  pub line : List ℕ
+  pub named : IsInputLine task fault line
+  pub said : SaysLine line rose before after
 
--- the book's stop has its cause in the lattice that the files are
-abbrev pub HasStop : ProjectFiles → Book → BookStop → Type 0
-HasStop files book stop = ForLatticeOf files (BookStops book stop)
+-- the book's stop has its cause in the lattice that is asked for, within the budget
+abbrev pub HasStop : Request → Files → Book → BookStop → Type 0
+HasStop request files book stop = ForLatticeOf request.task files (BookStops request.budget book stop)
 
--- the book's stop is one of this status and has its cause in the project's files, and only its line was said
-pub record IsStopped (project : List ℕ) (book : Book) (status : Status) (rose : Type 0) (before after : Desk) : Type 0 where
+-- the book's stop is one of this status and has its cause, and only its line was said
+pub record IsStopped (request : Request) (book : Book) (status : Status) (rose : Type 0) (before after : Desk) : Type 0 where
   pub stop : BookStop
   pub kept : book.stop ≡ Some stop
   pub named : status_of stop ≡ status
-  pub cause : HasStop (project_files before.files project) book stop
+  pub cause : HasStop request before.files book stop
   pub line : SaysLine (stop_line stop) rose before after
 
 -- The project's `.mar` was begun: its bytes so far are a front of the answer's text.
-pub record IsBegun (project : List ℕ) (book : Book) (before after : Desk) : Type 0 where
+pub record IsBegun (project : List ℕ) (upto : Option ℕ) (book : Book) (before after : Desk) : Type 0 where
   pub lat : Grid
   pub grading : List ℤ
   pub problem : IsProblem (project_files before.files project) lat grading
   pub complete : BookCompletes book (lattice_of_table lat grading)
   pub moves : List (List ℤ)
-  pub basis : IsMinimalMarkovBasis (lattice_of_table lat grading) None moves
+  pub basis : IsMinimalMarkovBasis (lattice_of_table lat grading) upto moves
   pub name : after.made_name ≡ mar_name project
   pub count : ℕ
   pub made : after.made ≡ take count (move_text lat.columns moves)
 
--- No file changed, and nothing was said but a front of one of those lines. A file that was begun is the answer's.
-pub record Leaves (project : List ℕ) (book : Book) (IsOne : List ℕ → Type 0) (before after : Desk) : Type 0 where
+-- a front of the summary was said
+pub record IsHalfSaid (sizes : List ℕ) (upto : Option ℕ) (book : Book) (before after : Desk) : Type 0 where
+  pub complete : BookCompletes book (model_lattice sizes)
+  pub moves : List (List ℤ)
+  pub basis : IsMinimalMarkovBasis (model_lattice sizes) upto moves
+  pub count : ℕ
+  pub out : after.out ≡ before.out ++ take count (model_summary sizes moves)
+
+-- the file being made is the one from before
+abbrev pub IsMadeAsBefore : Desk → Desk → Type 0
+IsMadeAsBefore before after = (after.made_name ≡ before.made_name) × (after.made ≡ before.made)
+
+-- What is left of the answer. Of a project: a file that was begun is the answer's, and nothing was said on the out channel. Of a made
+-- table: a front of its summary was said, or nothing, and no file was begun.
+abbrev pub LeavesAnswer : Task → Option ℕ → Book → Desk → Desk → Type 0
+LeavesAnswer (Project name) upto book before after = (after.out ≡ before.out) × (IsMadeAsBefore before after ⊎ IsBegun name upto book before after)
+LeavesAnswer (Model sizes) upto book before after = IsMadeAsBefore before after × ((after.out ≡ before.out) ⊎ IsHalfSaid sizes upto book before after)
+
+-- No file changed, and nothing was said on the error channel but a front of one of those lines.
+pub record Leaves (request : Request) (book : Book) (IsOne : List ℕ → Type 0) (before after : Desk) : Type 0 where
   pub files : after.files ≡ before.files
-  pub out : after.out ≡ before.out
+  pub answer : LeavesAnswer request.task request.upto book before after
   pub line : List ℕ
   pub one : IsOne line
   pub count : ℕ
   pub errors : after.errors ≡ before.errors ++ take count line
-  pub made : ((after.made_name ≡ before.made_name) × (after.made ≡ before.made)) ⊎ IsBegun project book before after
 
--- Memory ran out. No file changed, and a fault or a stop that the book has is one that the project's files have.
-pub record RunsOut (project : List ℕ) (book : Book) (before after : Desk) : Type 0 where
-  pub faulty : IfSome book.input (IsFaulty (project_files before.files project))
-  pub stopped : IfSome book.stop (HasStop (project_files before.files project) book)
-  pub left : Leaves project book (IsLine project book) before after
+-- Memory ran out. No file changed, and a fault or a stop that the book has is one that what is asked for has.
+pub record RunsOut (request : Request) (book : Book) (before after : Desk) : Type 0 where
+  pub faulty : IfSome book.input (HasFault request.task before.files)
+  pub stopped : IfSome book.stop (HasStop request before.files book)
+  pub left : Leaves request book (IsLine request.task book) before after
 
--- how a run for a project ends
-abbrev pub Ends : List ℕ → Book → Type 0 → Status → Desk → Desk → Type 0
-Ends project book rose Done before after = WritesMarkovBasis project before after × BooksProblem (project_files before.files project) book
-Ends project book rose Usage before after = ⊥
-Ends project book rose Input before after = RefusesInput project book rose before after
-Ends project book rose Folder before after = Leaves project book (λ line. line ≡ folder_line) before after
-Ends project book rose Overflow before after = IsStopped project book Overflow rose before after
-Ends project book rose Budget before after = IsStopped project book Budget rose before after
-Ends project book rose Memory before after = RunsOut project book before after
-Ends project book rose Full before after = IsStopped project book Full rose before after
+-- how a run on a request ends
+abbrev pub Ends : Request → Book → Type 0 → Status → Desk → Desk → Type 0
+Ends request book rose Done before after =
+    GivesMarkovBasis request.task request.upto before after × BooksProblem request.task before.files book
+Ends request book rose Usage before after = ⊥
+Ends request book rose Input before after = RefusesInput request.task book rose before after
+Ends request book rose Folder before after = Leaves request book (λ line. line ≡ folder_line) before after
+Ends request book rose Overflow before after = IsStopped request book Overflow rose before after
+Ends request book rose Budget before after = IsStopped request book Budget rose before after
+Ends request book rose Memory before after = RunsOut request book before after
+Ends request book rose Full before after = IsStopped request book Full rose before after
 
--- how a run ends whose words name no project
-abbrev pub EndsUnnamed : Type 0 → Status → Desk → Desk → Type 0
-EndsUnnamed rose Usage before after = SaysLine usage_line rose before after
-EndsUnnamed rose Memory before after = SaysLine usage_line (Unit {0}) before after
-EndsUnnamed rose Done before after = ⊥
-EndsUnnamed rose Input before after = ⊥
-EndsUnnamed rose Folder before after = ⊥
-EndsUnnamed rose Overflow before after = ⊥
-EndsUnnamed rose Budget before after = ⊥
-EndsUnnamed rose Full before after = ⊥
+-- How a run ends whose words are not in the language: the usage line was said. Where memory ran out, a front of it, or of that line.
+abbrev pub EndsUnasked : Type 0 → Status → Desk → Desk → Type 0
+EndsUnasked rose Usage before after = SaysLine usage_line rose before after
+EndsUnasked rose Memory before after = SaysLine usage_line (Unit {0}) before after ⊎ SaysLine memory_line (Unit {0}) before after
+EndsUnasked rose Done before after = ⊥
+EndsUnasked rose Input before after = ⊥
+EndsUnasked rose Folder before after = ⊥
+EndsUnasked rose Overflow before after = ⊥
+EndsUnasked rose Budget before after = ⊥
+EndsUnasked rose Full before after = ⊥
 
--- ---- what the files decide
+-- ---- what is decided by what is asked for
 -- the run ended so, unless the folder's count of faults rose or memory ran out
 abbrev pub Unless : Type 0 → Status → Type 0 → Type 0
 Unless rose status ending = ending ⊎ rose ⊎ (status ≡ Memory)
 
--- A fault that the files have is answered, and kept. Files that are a lattice with its grading are answered, or the run stops, which
--- it never does where the lattice has at most one row that isn't zero.
-pub record IsDecided (project : List ℕ) (book : Book) (rose : Type 0) (status : Status) (before after : Desk) : Type 0 where
-  pub faulty : (fault : InputFault) → IsFaulty (project_files before.files project) fault
+-- A fault that the files have is answered, and kept. A lattice with its grading is answered, or the run stops, which it never does
+-- where the lattice has at most one row that isn't zero.
+pub record IsDecided (request : Request) (book : Book) (rose : Type 0) (status : Status) (before after : Desk) : Type 0 where
+  pub faulty : (fault : InputFault) → HasFault request.task before.files fault
       → Unless rose status ((status ≡ Input) × (book.input ≡ Some fault))
-  pub solvable : (lat : Grid) (grading : List ℤ) → IsProblem (project_files before.files project) lat grading
-      → Unless rose status ((status ≡ Done) ⊎ HasStopOf status book)
-  pub one_row : (lat : Grid) (grading : List ℤ) → IsProblem (project_files before.files project) lat grading
+  pub solvable : (lat : Grid) (grading : List ℤ) → IsAsked request.task before.files lat grading
+      → Unless rose status ((status ≡ Done) ⊎ HasStopOf request status book)
+  pub one_row : (lat : Grid) (grading : List ℤ) → IsAsked request.task before.files lat grading
       → length (nonzero_rows (rows_of lat)) ≤ 1 → Unless rose status (status ≡ Done)

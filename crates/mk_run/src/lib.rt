@@ -1,12 +1,13 @@
-//! A whole run: from the words and the files to the answer's file.
+//! A whole run: from the words and the files to the answer.
 #![tactic(auto)]
 
 mod fault;
+mod giving;
 mod lines;
+mod problem;
 mod refusal;
 mod run;
 mod status;
-mod words;
 
 pub use lines::stop_line;
 pub use mk_desk::{Channel, Folder, MemoryFolder, RealFolder, SureFolder};
@@ -19,4 +20,3 @@ pub use mk_solve::{
 };
 pub use run::run_alone;
 pub use status::Status;
-pub use words::project_of;

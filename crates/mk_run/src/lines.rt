@@ -9,13 +9,13 @@ use std::alloc::{AllocError, Global};
 
 /// The line for words that are no command.
 pub(crate) const USAGE: &str =
-    "usage: markov [--workers N] [--budget N] PROJECT or markov [--workers N] [--budget N] --model RxC[xD]\n";
+    "usage: markov [--workers N] [--budget N] [--upto W] PROJECT or markov [--workers N] [--budget N] [--upto W] --model RxC[xD]\n";
 
 /// The line for a folder that failed.
 const FOLDER: &str = "markov: a file or stream failed\n";
 
 /// The line for want of memory.
-const MEMORY: &str = "markov: out of memory\n";
+pub(crate) const MEMORY: &str = "markov: out of memory\n";
 
 /// The line for a basis of the most moves that needs another.
 const FULL: &str = "markov: basis holds 65536 moves and needs another\n";

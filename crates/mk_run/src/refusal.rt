@@ -1,4 +1,6 @@
 ghost use Rattle.std.specs.Prelude.{◌≡◌, IsSome, IfOk};
+ghost use Rattle.mk_project.specs.declared.fault.InputFault.{InputFault};
+ghost use Rattle.mk_run.specs.Asked.{IsOfProject};
 ghost use Rattle.mk_run.specs.Stages.{IsRefusal, book_with};
 
 use crate::fault::RunFault;
@@ -6,6 +8,7 @@ use crate::lines::{Line, stop_line};
 use crate::status::Status;
 use mk_project::input_line;
 use mk_solve::RunBook;
+use mk_words::Task;
 use std::alloc::{AllocError, Global};
 
 /// How a run ends that is refused, and the line that it says.
@@ -18,12 +21,13 @@ pub(crate) struct Refused {
 /// The status and the line for why a run has no answer. A line with what the book keeps in it needs memory.
 pub(crate) fn refusal(
     alloc: Global,
-    project: &str,
+    task: &Task,
     book: &RunBook,
     fault: RunFault,
 ) -> Result<Refused, AllocError>
-    requires { fault ≡ RunFault.Stopped → IsSome book.now.stop }
-    ensures { IfOk result (IsRefusal project.now book.now fault) }
+    requires stopped { fault ≡ RunFault.Stopped → IsSome book.now.stop }
+    requires input { (input : InputFault) → fault ≡ RunFault.Input input → IsOfProject task.now }
+    ensures { IfOk result (IsRefusal task.now book.now fault) }
 {
     match fault {
         RunFault::Memory => Ok(Refused {
@@ -34,10 +38,13 @@ pub(crate) fn refusal(
             status: Status::Folder,
             line: Line::Folder,
         }),
-        RunFault::Input(fault) => Ok(Refused {
-            status: Status::Input,
-            line: Line::Made(input_line(alloc, project, fault)?),
-        }),
+        RunFault::Input(fault) => match task {
+            Task::Project(name) => Ok(Refused {
+                status: Status::Input,
+                line: Line::Made(input_line(alloc, name.text(), fault)?),
+            }),
+            Task::Model(_) => unreachable!(),
+        },
         RunFault::Stopped => match book.stop() {
             Some(stop) => Ok(Refused {
                 status: Status::of_stop(stop),

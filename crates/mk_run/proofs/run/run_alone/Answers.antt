@@ -1,135 +1,184 @@
-use Rattle.std.proofs.Common.{◌≡◌, ◌⊎◌, List, ℕ, Err, Ok, sym, subst, map, string_bytes}
+use Rattle.std.proofs.Common.{◌≡◌, ◌⊎◌, ◌≤◌, Err, ap, sym, subst, inl, inr, ◌∙◌, map, string_bytes}
 use Rattle.mk_desk.specs.Folders.{WhereTold, Rose}
-use Rattle.mk_desk.proofs.Telling.{where_told_then, where_told_weaker}
-use Rattle.mk_solve.specs.Books.{Book}
-use Rattle.mk_run.specs.Lines.{usage_line, memory_line, text_of_line}
-use Rattle.mk_run.specs.Runs.{Ends, EndsByBudget, EndsUnnamed, HasCauseOf, HasLeftBook, InputIsShown, IsDecided, SaysLine}
-use Rattle.mk_run.specs.Stages.{Answers, IsRefusal, book_with}
-use Rattle.mk_run.specs.Words.{NamesProject}
-use Rattle.mk_run.specs.declared.status.Status.TheVariants.{Done, Memory}
-use Rattle.mk_run.proofs.Decided.{decided, done_decided}
-use Rattle.mk_run.proofs.Endings.{nothing_said}
-use Rattle.mk_run.proofs.Refusals.{empty_is_few, empty_ends, ends_by_budget, input_shown, left_book, memory_told, refused_cause, refused_ends, rose_earlier, unnamed_ends, unsaid_ends}
-use Rattle.mk_run.proofs.WordsNamed.{one_project}
+use Rattle.mk_desk.proofs.Telling.{where_told_weaker}
+use Rattle.mk_solve.specs.Books.{settled_of}
+use Rattle.mk_words.specs.Requests.{AreWrong, IsRequest}
+use Rattle.mk_words.specs.declared.request.Request.{Request}
+use Rattle.mk_run.specs.Lines.{usage_line, memory_line}
+use Rattle.mk_run.specs.Runs.{BooksProblem, Ends, EndsByBudget, EndsUnasked, GivesMarkovBasis, HasCauseOf, IsDecided, IsShownFor, SaysLine}
+use Rattle.mk_run.specs.declared.status.Status.{Status}
+use Rattle.mk_run.specs.declared.status.Status.TheVariants.{Memory}
+use Rattle.mk_run.proofs.Decided.{decided, unread_decided}
+use Rattle.mk_run.proofs.Refusals.{empty_is_few, unread_ends}
+use Rattle.mk_run.proofs.Unread.{done_books, done_gives, memory_ends, unread_shown, usage_ends}
 use Rattle.mk_run.proofs.run.run_alone.Goals as goal
-use Rattle.mk_run.proofs.run.run_alone.Goals.{Joined-refusal-2}
+use Rattle.mk_run.proofs.run.run_alone.Goals.{Joined-request, In-Err-Words}
 use Rattle.mk_run.proofs.run.run_alone.Given.{Over}
 
--- ---- words that name no project
-pub returns-in_default-clause-settled : goal.returns-in_default-clause-settled
-returns-in_default-clause-settled g c = empty_is_few c.args.book.now c.requires.book
+-- ---- words that were read as a request, which is the only one
+for_each : (g : Over) (c : Joined-request g) (P : Request → Type 0) → P c.in-Ok.request → (request : Request) → IsRequest (map string_bytes c.args.words.now) request → P request
+for_each g c P h request asked = subst P (sym (c.in-Ok.ensures.only request asked)) h
 
-pub returns-in_default-clause-budget : goal.returns-in_default-clause-budget
-returns-in_default-clause-budget g c = empty_ends c.args.book.now c.say.result c.requires.book
-
-pub returns-in_default-clause-told_unnamed : goal.returns-in_default-clause-told_unnamed
-returns-in_default-clause-told_unnamed g c =
-    λ none.
-    let rose = Rose (g.F.Folder.state c.args.folder.now).faults (g.F.Folder.state c.say.new.folder).faults in
-    let status = c.say.result in
-    where_told_weaker _ _ (SaysLine usage_line (rose ⊎ (status ≡ Memory))) (EndsUnnamed rose status) c.say.ensures.told (unnamed_ends rose status c.say.ensures.status)
-
--- ---- the answer
-pub returns-in_default-answer-clause-budget : goal.returns-in_default-answer-clause-budget
-returns-in_default-answer-clause-budget g c =
-    λ used other. absurd (let e = (c.in_default-answer.ensures.budget used other).0 in cc)
-
-pub returns-in_default-answer-clause-decided : goal.returns-in_default-answer-clause-decided
-returns-in_default-answer-clause-decided g c =
-    λ project names.
-    let before = g.F.Folder.state c.args.folder.now in
-    let after = g.F.Folder.state c.answer.new.folder in
+pub returns-in-Ok-clause-answered : goal.returns-in-Ok-clause-answered
+returns-in-Ok-clause-answered g c = λ done.
     let start = g.F.Folder.told c.args.folder.now in
-    let end = g.F.Folder.told c.answer.new.folder in
-    let read = c.in-Some.project.now in
-    let book = c.answer.new.book in
-    let same : read ≡ project = one_project (map string_bytes c.args.words.now) read project c.in-Some.ensures.named names in
-    subst (λ (p : List ℕ). WhereTold start end (IsDecided p book (Rose before.faults after.faults) Done)) same
-    (where_told_weaker start end (Answers read book (Ok tt)) (IsDecided read book (Rose before.faults after.faults) Done) c.in_default-answer.ensures.told
-    (λ x z h. done_decided read book before after x z h.1))
+    let end = g.F.Folder.told c.run.new.folder in
+    let rose = Rose (g.F.Folder.state c.args.folder.now).faults (g.F.Folder.state c.run.new.folder).faults in
+    for_each g c (λ request. WhereTold start end (GivesMarkovBasis request.task request.upto)) (done_gives c.in-Ok.request c.run.new.book rose c.run.result start end done c.run.ensures.told)
 
--- ---- a refusal whose line was to be said
-refusal_so : (g : Over) (c : Joined-refusal-2 g) → IsRefusal c.in-Some.project.now (book_with c.answer.new.book c.in-Err.fault) c.in-Err.fault c.in-Ok.refusal
-refusal_so g c = subst (λ (b : Book). IsRefusal c.in-Some.project.now b c.in-Err.fault c.in-Ok.refusal) c.keep_fault.ensures c.in-Ok.ensures
-
-cause_so : (g : Over) (c : Joined-refusal-2 g) → HasCauseOf c.keep_fault.new.book (g.F.Folder.state c.args.folder.now) (g.F.Folder.state c.say-in-Ok.new.folder) c.say-in-Ok.result
-cause_so g c =
-    let before = g.F.Folder.state c.args.folder.now in
-    let between = g.F.Folder.state c.answer.new.folder in
-    let after = g.F.Folder.state c.say-in-Ok.new.folder in
-    subst (λ (b : Book). HasCauseOf b before after c.say-in-Ok.result) (sym c.keep_fault.ensures)
-    (refused_cause c.in-Some.project.now c.answer.new.book before between after c.requires.making c.say-in-Ok.ensures.state c.say-in-Ok.ensures.later c.in-Err.fault c.in-Ok.refusal c.say-in-Ok.result c.say-in-Ok.ensures.status (refusal_so g c) c.in-Err.ensures.book c.in-Err.ensures.making c.in-Err.ensures.cause)
-
-ends_so : (g : Over) (c : Joined-refusal-2 g) (project : List ℕ) → NamesProject (map string_bytes c.args.words.now) project →
-    WhereTold (g.F.Folder.told c.args.folder.now) (g.F.Folder.told c.say-in-Ok.new.folder)
-    (Ends project c.keep_fault.new.book (Rose (g.F.Folder.state c.args.folder.now).faults (g.F.Folder.state c.say-in-Ok.new.folder).faults) c.say-in-Ok.result)
-ends_so g c project names =
-    let before = (g.F.Folder.state c.args.folder.now).faults in
-    let between = g.F.Folder.state c.answer.new.folder in
-    let after = (g.F.Folder.state c.say-in-Ok.new.folder).faults in
+pub returns-in-Ok-clause-booked : goal.returns-in-Ok-clause-booked
+returns-in-Ok-clause-booked g c = λ done.
     let start = g.F.Folder.told c.args.folder.now in
-    let middle = g.F.Folder.told c.answer.new.folder in
-    let end = g.F.Folder.told c.say-in-Ok.new.folder in
-    let read = c.in-Some.project.now in
-    let fault = c.in-Err.fault in
-    let refusal = c.in-Ok.refusal in
-    let status = c.say-in-Ok.result in
-    let book = c.answer.new.book in
-    let same : read ≡ project = one_project (map string_bytes c.args.words.now) read project c.in-Some.ensures.named names in
-    let said = subst (λ (line : List ℕ). WhereTold middle end (SaysLine line (Rose between.faults after ⊎ (status ≡ Memory)))) c.as_str.ensures c.say-in-Ok.ensures.told in
-    subst (λ (p : List ℕ). WhereTold start end (Ends p c.keep_fault.new.book (Rose before after) status)) same
-    (subst (λ (b : Book). WhereTold start end (Ends read b (Rose before after) status)) (sym c.keep_fault.ensures)
-    (where_told_then start middle end (Answers read book (Err fault)) (SaysLine (text_of_line refusal.line) (Rose between.faults after ⊎ (status ≡ Memory))) (Ends read (book_with book fault) (Rose before after) status) c.in-Err.ensures.told said
-    (refused_ends read book between (Rose before after) (Rose between.faults after) fault refusal status c.say-in-Ok.ensures.status (rose_earlier before between.faults after c.in-Err.ensures.cause.later) (refusal_so g c) c.in-Err.ensures.book)))
+    let end = g.F.Folder.told c.run.new.folder in
+    let rose = Rose (g.F.Folder.state c.args.folder.now).faults (g.F.Folder.state c.run.new.folder).faults in
+    for_each g c (λ request. WhereTold start end (λ before after. BooksProblem request.task before.files c.run.new.book)) (done_books c.in-Ok.request c.run.new.book rose c.run.result start end done c.run.ensures.told)
+
+pub returns-in-Ok-clause-usage : goal.returns-in-Ok-clause-usage
+returns-in-Ok-clause-usage g c = λ wrong. absurd (wrong c.in-Ok.request c.in-Ok.ensures.ok)
+
+pub returns-in-Ok-clause-named : goal.returns-in-Ok-clause-named
+returns-in-Ok-clause-named g c = λ usage.
+    absurd (subst (HasCauseOf c.in-Ok.request c.run.new.book (g.F.Folder.state c.args.folder.now) (g.F.Folder.state c.run.new.folder)) usage c.run.ensures.cause)
+
+pub returns-in-Ok-clause-unread : goal.returns-in-Ok-clause-unread
+returns-in-Ok-clause-unread g c = inl (c.in-Ok.request, c.in-Ok.ensures.ok)
+
+pub returns-in-Ok-clause-cause : goal.returns-in-Ok-clause-cause
+returns-in-Ok-clause-cause g c =
+    for_each g c (λ request. HasCauseOf request c.run.new.book (g.F.Folder.state c.args.folder.now) (g.F.Folder.state c.run.new.folder) c.run.result) c.run.ensures.cause
+
+pub returns-in-Ok-clause-settled : goal.returns-in-Ok-clause-settled
+returns-in-Ok-clause-settled g c = for_each g c (λ request. settled_of c.run.new.book.phases ≤ request.budget) c.run.ensures.settled
 
 pub returns-in-Ok-clause-budget : goal.returns-in-Ok-clause-budget
-returns-in-Ok-clause-budget g c =
-    subst (λ (b : Book). EndsByBudget b c.say-in-Ok.result) (sym c.keep_fault.ensures)
-    (ends_by_budget c.in-Some.project.now c.answer.new.book c.in-Err.fault c.in-Ok.refusal c.say-in-Ok.result c.say-in-Ok.ensures.status (refusal_so g c) c.in-Err.ensures.budget)
+returns-in-Ok-clause-budget g c = for_each g c (λ request. EndsByBudget request.budget c.run.new.book c.run.result) c.run.ensures.budget
 
 pub returns-in-Ok-clause-shown : goal.returns-in-Ok-clause-shown
 returns-in-Ok-clause-shown g c =
-    λ project names.
-    let between = g.F.Folder.state c.answer.new.folder in
-    let after = g.F.Folder.state c.say-in-Ok.new.folder in
-    let book = c.answer.new.book in
-    let fault = c.in-Err.fault in
-    let status = c.say-in-Ok.result in
-    subst (λ (b : Book). InputIsShown b.input after status) (sym c.keep_fault.ensures)
-    (input_shown book fault status (memory_told c.in-Some.project.now (book_with book fault) fault c.in-Ok.refusal status c.say-in-Ok.ensures.status (refusal_so g c)) between after c.say-in-Ok.ensures.state c.in-Err.ensures.book c.in-Err.ensures.shown)
-
-pub returns-in-Ok-clause-cause : goal.returns-in-Ok-clause-cause
-returns-in-Ok-clause-cause g c = cause_so g c
+    for_each g c (λ request. IsShownFor request.task c.run.new.book.input (g.F.Folder.state c.args.folder.now) (g.F.Folder.state c.run.new.folder) c.run.result) c.run.ensures.shown
 
 pub returns-in-Ok-clause-told : goal.returns-in-Ok-clause-told
-returns-in-Ok-clause-told g c = ends_so g c
+returns-in-Ok-clause-told g c =
+    let start = g.F.Folder.told c.args.folder.now in
+    let end = g.F.Folder.told c.run.new.folder in
+    let rose = Rose (g.F.Folder.state c.args.folder.now).faults (g.F.Folder.state c.run.new.folder).faults in
+    for_each g c (λ request. WhereTold start end (Ends request c.run.new.book rose c.run.result)) c.run.ensures.told
+
+pub returns-in-Ok-clause-told_unasked : goal.returns-in-Ok-clause-told_unasked
+returns-in-Ok-clause-told_unasked g c = λ wrong. absurd (wrong c.in-Ok.request c.in-Ok.ensures.ok)
 
 pub returns-in-Ok-clause-decided : goal.returns-in-Ok-clause-decided
 returns-in-Ok-clause-decided g c =
-    λ project names.
     let before = g.F.Folder.state c.args.folder.now in
-    let after = g.F.Folder.state c.say-in-Ok.new.folder in
-    let book = c.keep_fault.new.book in
-    let status = c.say-in-Ok.result in
-    where_told_weaker _ _ (Ends project book (Rose before.faults after.faults) status) (IsDecided project book (Rose before.faults after.faults) status) (ends_so g c project names)
-    (decided project book before after status (cause_so g c))
-
--- ---- a refusal for whose line there was no memory
-pub returns-in-Err-refusal-clause-cause : goal.returns-in-Err-refusal-clause-cause
-returns-in-Err-refusal-clause-cause g c =
-    subst HasLeftBook (sym c.keep_fault.ensures) (left_book c.answer.new.book c.in-Err.fault (g.F.Folder.state c.answer.new.folder) c.in-Err.ensures.book)
-
-pub returns-in-Err-refusal-clause-told : goal.returns-in-Err-refusal-clause-told
-returns-in-Err-refusal-clause-told g c =
-    λ project names.
-    let rose = Rose (g.F.Folder.state c.args.folder.now).faults (g.F.Folder.state c.answer.new.folder).faults in
+    let after = g.F.Folder.state c.run.new.folder in
     let start = g.F.Folder.told c.args.folder.now in
-    let end = g.F.Folder.told c.answer.new.folder in
-    let read = c.in-Some.project.now in
-    let fault = c.in-Err.fault in
-    let book = c.answer.new.book in
-    let same : read ≡ project = one_project (map string_bytes c.args.words.now) read project c.in-Some.ensures.named names in
-    subst (λ (p : List ℕ). WhereTold start end (Ends p c.keep_fault.new.book rose Memory)) same
-    (subst (λ (b : Book). WhereTold start end (Ends read b rose Memory)) (sym c.keep_fault.ensures)
-    (where_told_weaker start end (Answers read book (Err fault)) (Ends read (book_with book fault) rose Memory) c.in-Err.ensures.told
-    (λ x y a. unsaid_ends read book (g.F.Folder.state c.answer.new.folder) rose fault c.in-Err.ensures.book x y a (nothing_said memory_line (Unit {0}) tt y))))
+    let end = g.F.Folder.told c.run.new.folder in
+    let book = c.run.new.book in
+    let status = c.run.result in
+    for_each g c (λ request. WhereTold start end (IsDecided request book (Rose before.faults after.faults) status))
+    (where_told_weaker start end (Ends c.in-Ok.request book (Rose before.faults after.faults) status) (IsDecided c.in-Ok.request book (Rose before.faults after.faults) status) c.run.ensures.told
+    (decided c.in-Ok.request book before after status c.run.ensures.cause))
+
+-- ---- words that are not in the language
+wrong : (g : Over) (c : In-Err-Words g) → AreWrong (map string_bytes c.args.words.now)
+wrong g c = c.read_words.ensures.words (c.in-Err-Words.is ∙ ap Err c.in-Err-Words.field-0-is)
+
+pub returns-in-Err-Words-clause-answered : goal.returns-in-Err-Words-clause-answered
+returns-in-Err-Words-clause-answered g c = λ done request asked. absurd (wrong g (goal.at.returns-in-Err-Words-clause-answered g c).In-Err-Words request asked)
+
+pub returns-in-Err-Words-clause-booked : goal.returns-in-Err-Words-clause-booked
+returns-in-Err-Words-clause-booked g c = λ done request asked. absurd (wrong g (goal.at.returns-in-Err-Words-clause-booked g c).In-Err-Words request asked)
+
+pub returns-in-Err-Words-clause-usage : goal.returns-in-Err-Words-clause-usage
+returns-in-Err-Words-clause-usage g c = λ none. c.say.ensures.status
+
+pub returns-in-Err-Words-clause-named : goal.returns-in-Err-Words-clause-named
+returns-in-Err-Words-clause-named g c = λ usage. wrong g (goal.at.returns-in-Err-Words-clause-named g c).In-Err-Words
+
+pub returns-in-Err-Words-clause-unread : goal.returns-in-Err-Words-clause-unread
+returns-in-Err-Words-clause-unread g c = inr (record { empty = c.requires.book; untouched = c.say.ensures.state; ended = c.say.ensures.status })
+
+pub returns-in-Err-Words-clause-cause : goal.returns-in-Err-Words-clause-cause
+returns-in-Err-Words-clause-cause g c = λ request asked. absurd (wrong g (goal.at.returns-in-Err-Words-clause-cause g c).In-Err-Words request asked)
+
+pub returns-in-Err-Words-clause-settled : goal.returns-in-Err-Words-clause-settled
+returns-in-Err-Words-clause-settled g c = λ request asked. absurd (wrong g (goal.at.returns-in-Err-Words-clause-settled g c).In-Err-Words request asked)
+
+pub returns-in-Err-Words-clause-budget : goal.returns-in-Err-Words-clause-budget
+returns-in-Err-Words-clause-budget g c = λ request asked. absurd (wrong g (goal.at.returns-in-Err-Words-clause-budget g c).In-Err-Words request asked)
+
+pub returns-in-Err-Words-clause-shown : goal.returns-in-Err-Words-clause-shown
+returns-in-Err-Words-clause-shown g c = λ request asked. absurd (wrong g (goal.at.returns-in-Err-Words-clause-shown g c).In-Err-Words request asked)
+
+pub returns-in-Err-Words-clause-told : goal.returns-in-Err-Words-clause-told
+returns-in-Err-Words-clause-told g c = λ request asked. absurd (wrong g (goal.at.returns-in-Err-Words-clause-told g c).In-Err-Words request asked)
+
+pub returns-in-Err-Words-clause-told_unasked : goal.returns-in-Err-Words-clause-told_unasked
+returns-in-Err-Words-clause-told_unasked g c = λ none.
+    let rose = Rose (g.F.Folder.state c.args.folder.now).faults (g.F.Folder.state c.say.new.folder).faults in
+    let status = c.say.result in
+    where_told_weaker _ _ (SaysLine usage_line (rose ⊎ (status ≡ Memory))) (EndsUnasked rose status) c.say.ensures.told (usage_ends rose status c.say.ensures.status)
+
+pub returns-in-Err-Words-clause-decided : goal.returns-in-Err-Words-clause-decided
+returns-in-Err-Words-clause-decided g c = λ request asked. absurd (wrong g (goal.at.returns-in-Err-Words-clause-decided g c).In-Err-Words request asked)
+
+-- ---- words for which there was no memory
+is_memory : (status : Status) → (status ≡ Memory) ⊎ (status ≡ Memory) → status ≡ Memory
+is_memory status which = elim which [ inl e ↦ e | inr e ↦ e ]
+
+pub returns-in-Err-Memory-clause-answered : goal.returns-in-Err-Memory-clause-answered
+returns-in-Err-Memory-clause-answered g c = λ done. absurd (let memory = is_memory c.say-in-Err-Memory.result c.say-in-Err-Memory.ensures.status in cc)
+
+pub returns-in-Err-Memory-clause-booked : goal.returns-in-Err-Memory-clause-booked
+returns-in-Err-Memory-clause-booked g c = λ done. absurd (let memory = is_memory c.say-in-Err-Memory.result c.say-in-Err-Memory.ensures.status in cc)
+
+pub returns-in-Err-Memory-clause-usage : goal.returns-in-Err-Memory-clause-usage
+returns-in-Err-Memory-clause-usage g c = λ wrong. inr (is_memory c.say-in-Err-Memory.result c.say-in-Err-Memory.ensures.status)
+
+pub returns-in-Err-Memory-clause-named : goal.returns-in-Err-Memory-clause-named
+returns-in-Err-Memory-clause-named g c = λ usage. absurd (let memory = is_memory c.say-in-Err-Memory.result c.say-in-Err-Memory.ensures.status in cc)
+
+pub returns-in-Err-Memory-clause-unread : goal.returns-in-Err-Memory-clause-unread
+returns-in-Err-Memory-clause-unread g c =
+    inr (record { empty = c.requires.book; untouched = c.say-in-Err-Memory.ensures.state; ended = inr (is_memory c.say-in-Err-Memory.result c.say-in-Err-Memory.ensures.status) })
+
+pub returns-in-Err-Memory-clause-cause : goal.returns-in-Err-Memory-clause-cause
+returns-in-Err-Memory-clause-cause g c = λ request asked.
+    subst (HasCauseOf request c.args.book.now (g.F.Folder.state c.args.folder.now) (g.F.Folder.state c.say-in-Err-Memory.new.folder)) (sym (is_memory c.say-in-Err-Memory.result c.say-in-Err-Memory.ensures.status)) (inl c.requires.book)
+
+pub returns-in-Err-Memory-clause-settled : goal.returns-in-Err-Memory-clause-settled
+returns-in-Err-Memory-clause-settled g c = λ request asked. empty_is_few request.budget c.args.book.now c.requires.book
+
+pub returns-in-Err-Memory-clause-budget : goal.returns-in-Err-Memory-clause-budget
+returns-in-Err-Memory-clause-budget g c = λ request asked used other. inr (is_memory c.say-in-Err-Memory.result c.say-in-Err-Memory.ensures.status)
+
+pub returns-in-Err-Memory-clause-shown : goal.returns-in-Err-Memory-clause-shown
+returns-in-Err-Memory-clause-shown g c = λ request asked.
+    unread_shown request.task c.args.book.now (g.F.Folder.state c.args.folder.now) (g.F.Folder.state c.say-in-Err-Memory.new.folder) c.say-in-Err-Memory.result c.requires.book c.say-in-Err-Memory.ensures.state
+    (is_memory c.say-in-Err-Memory.result c.say-in-Err-Memory.ensures.status)
+
+pub returns-in-Err-Memory-clause-told : goal.returns-in-Err-Memory-clause-told
+returns-in-Err-Memory-clause-told g c = λ request asked.
+    let start = g.F.Folder.told c.args.folder.now in
+    let end = g.F.Folder.told c.say-in-Err-Memory.new.folder in
+    let before = g.F.Folder.state c.args.folder.now in
+    let rose = Rose before.faults (g.F.Folder.state c.say-in-Err-Memory.new.folder).faults in
+    let status = c.say-in-Err-Memory.result in
+    let book = c.args.book.now in
+    subst (λ (s : Status). WhereTold start end (Ends request book rose s)) (sym (is_memory status c.say-in-Err-Memory.ensures.status))
+    (where_told_weaker start end (SaysLine memory_line (rose ⊎ (status ≡ Memory))) (Ends request book rose Memory) c.say-in-Err-Memory.ensures.told
+    (unread_ends request book before rose (rose ⊎ (status ≡ Memory)) c.requires.book))
+
+pub returns-in-Err-Memory-clause-told_unasked : goal.returns-in-Err-Memory-clause-told_unasked
+returns-in-Err-Memory-clause-told_unasked g c = λ none.
+    let rose = Rose (g.F.Folder.state c.args.folder.now).faults (g.F.Folder.state c.say-in-Err-Memory.new.folder).faults in
+    let status = c.say-in-Err-Memory.result in
+    where_told_weaker _ _ (SaysLine memory_line (rose ⊎ (status ≡ Memory))) (EndsUnasked rose status) c.say-in-Err-Memory.ensures.told
+    (memory_ends rose status (is_memory status c.say-in-Err-Memory.ensures.status) (rose ⊎ (status ≡ Memory)))
+
+pub returns-in-Err-Memory-clause-decided : goal.returns-in-Err-Memory-clause-decided
+returns-in-Err-Memory-clause-decided g c = λ request asked.
+    let rose = Rose (g.F.Folder.state c.args.folder.now).faults (g.F.Folder.state c.say-in-Err-Memory.new.folder).faults in
+    let status = c.say-in-Err-Memory.result in
+    where_told_weaker _ _ (SaysLine memory_line (rose ⊎ (status ≡ Memory))) (IsDecided request c.args.book.now rose status) c.say-in-Err-Memory.ensures.told
+    (λ x y said. unread_decided request c.args.book.now rose status (is_memory status c.say-in-Err-Memory.ensures.status) x y)

@@ -6,9 +6,9 @@ use Rattle.mk_writer.specs.Writing.{text_of}
 use Rattle.mk_run.specs.Runs.{mar_name}
 use Rattle.mk_run.specs.Stages.{WritesAnswer}
 use Rattle.mk_run.proofs.Endings.{whole_made}
-use Rattle.mk_run.proofs.run.write_answer.Goals as goal
-use Rattle.mk_run.proofs.run.write_answer.Goals.{After-as_str, In_ok-write_moves}
-use Rattle.mk_run.proofs.run.write_answer.Given.{Over}
+use Rattle.mk_run.proofs.giving.write_answer.Goals as goal
+use Rattle.mk_run.proofs.giving.write_answer.Goals.{After-as_str, In_ok-write_moves}
+use Rattle.mk_run.proofs.giving.write_answer.Given.{Over}
 
 named : (g : Over) (c : After-as_str g) → c.as_str.result.now ≡ mar_name c.args.project.now
 named g c = c.as_str.ensures.value ∙ c.in_ok-name.ensures

@@ -1,0 +1,7 @@
+pub mod LedgerStepLemmas
+pub mod Sights
+pub mod Copies
+pub mod GrownCopies
+pub mod SeatTurns
+pub mod FirstAndLast
+pub mod Placings

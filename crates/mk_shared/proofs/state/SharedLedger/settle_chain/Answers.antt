@@ -1,0 +1,12 @@
+use Rattle.std.proofs.Common.{subst, ◌∙◌, length, ap, ◌≡◌}
+use Rattle.mk_ledger.specs.Ledgers.{LedgerView}
+use Rattle.mk_ledger.specs.Settlings.{AnswersChain}
+use Rattle.mk_shared.proofs.LedgerStepLemmas.{chains_in_turn}
+use Rattle.mk_shared.proofs.state.SharedLedger.settle_chain.Goals as goal
+
+pub returns : goal.returns
+returns c =
+    let e = c.deref_mut.ensures.value ∙ c.self.view_is in let x = c.args.self.now in
+    let y = c.settle_chain-settled.new.self in
+    chains_in_turn x y c.basis.ensures.kept c.basis-2.ensures.kept c.args.worker c.args.k c.settle_chain-settled.result
+    (subst (λ (l : LedgerView). AnswersChain l c.args.worker c.args.k c.settle_chain-settled.result y) e c.settle_chain-settled.ensures)

@@ -1,0 +1,7 @@
+pub mod LedgerTurns
+pub mod LedgerLaws
+pub mod LedgerSteps
+pub mod Placing
+pub mod SharedSeats
+pub mod SharedAnswers
+pub mod SeatFields

@@ -4,8 +4,6 @@
 #[cfg(test)]
 mod completions;
 #[cfg(test)]
-mod halts;
-#[cfg(test)]
 mod pairs;
 #[cfg(test)]
 mod shown;

@@ -1,12 +1,12 @@
-ghost use Rattle.std.specs.Prelude.{◌≡◌, [], length, All, IfOk};
+ghost use Rattle.std.specs.Prelude.{◌≡◌, length, All};
 ghost use Rattle.mk_model.specs.Vectors.{IsEntry};
 ghost use Rattle.mk_reduce.specs.Leads.{leads_of};
 
 use crate::shown::{assert_moves, assert_row, start_of, table_of};
-use mk_core::{drop_redundant, finder_of};
-use mk_model::{Entry, NoMemory};
+use mk_core::{LeadFinder, drop_redundant, finder_of};
+use mk_model::Entry;
 use mk_move::{Basis, Finder, Move, OverflowAt, Side};
-use mk_reduce::{PlainFinder, Stop, Work, critical, reduce};
+use mk_reduce::{Stop, Work, critical, reduce};
 use std::alloc::AllocGlobal;
 use std::process::Abort;
 use std::test::Fail;
@@ -97,27 +97,16 @@ fn pairs_are_reduced(rt: HostRuntime) -> Result<(), Fail> {
     Ok(())
 }
 
-// The finder, which has no leads, with those of the basis.
-fn filled<F: Finder + Drop>(basis: &Basis, mut finder: F) -> Result<F, NoMemory>
-    requires { F.leads finder ≡ [] }
-    ensures { IfOk result (λ filled. F.leads filled ≡ leads_of basis.now.moves) }
-{
-    for place in 0..basis.len() {
-        finder.insert(basis.move_at(place))?;
-    }
-    Ok(finder)
-}
-
-// The places of leads of the basis that divide the positive and the negative part of the move of a row, each or none.
-fn found_for<F: Finder>(
+// The place of a lead of the basis that divides the positive part of the move of a row, or none.
+fn found_for(
     rt: &(impl Abort + AllocGlobal),
     basis: &Basis,
-    finder: &F,
+    finder: &LeadFinder,
     row: &[Entry],
-) -> Result<(Option<u32>, Option<u32>), Fail>
+) -> Result<Option<u32>, Fail>
     requires columns { length row.now ≡ 4 }
     requires entries { All IsEntry row.now }
-    requires leads { F.leads finder.now ≡ leads_of basis.now.moves }
+    requires leads { finder.now ≡ leads_of basis.now.moves }
 {
     assert_eq!(rt; finder.count(), basis.len());
     assert_eq!(rt; basis.grading().columns(), 4);
@@ -126,27 +115,16 @@ fn found_for<F: Finder>(
     let Some(m) = found else {
         panic!(rt; "the zero row");
     };
-    Ok((finder.find(&m, Side::Plus), finder.find(&m, Side::Minus)))
+    Ok(finder.find(&m, Side::Plus))
 }
 
-// Rows, and the place of the one lead that divides the positive part of each, and the negative part: by the tree of leads and by
-// the plain finder.
 #[test]
 fn a_lead_divides_or_none_does(rt: HostRuntime) -> Result<(), Fail> {
     let basis = start_of(&rt, OVERLAPPING, None)?;
     assert_moves(&rt, &basis, OVERLAPPING)?;
-    let tree = finder_of(rt.alloc(), &basis)?;
-    let plain = filled(&basis, PlainFinder::new(rt.alloc()))?;
-    let rows = [
-        ([1, 1, -2, 0], (Some(0), None)),
-        ([0, 2, -2, 0], (None, None)),
-        ([2, -1, -1, 0], (None, Some(2))),
-        ([1, -2, 3, -2], (Some(1), None)),
-    ];
-    for (row, places) in rows {
-        assert_eq!(rt; found_for(&rt, &basis, &tree, &row)?, places);
-        assert_eq!(rt; found_for(&rt, &basis, &plain, &row)?, places);
-    }
+    let finder = finder_of(rt.alloc(), &basis)?;
+    assert_eq!(rt; found_for(&rt, &basis, &finder, &[1, 1, -2, 0])?, Some(0));
+    assert_eq!(rt; found_for(&rt, &basis, &finder, &[0, 2, -2, 0])?, None);
     Ok(())
 }
 

@@ -1,11 +1,10 @@
-ghost use Rattle.std.specs.Prelude.{◌<◌, ◌≤◌, length, All, IfOk};
+ghost use Rattle.std.specs.Prelude.{◌<◌, All, IfOk};
 
 use crate::completions::MOVES;
-use crate::halts::ONE_PLACED;
 use crate::shown::{assert_moves, start_of};
 use crate::skips::OVERLAPPING;
-use mk_core::{Job, Turn, drive, drive_halting};
-use mk_ledger::{Halt, Ledger};
+use mk_core::{Job, Turn, drive};
+use mk_ledger::Ledger;
 use std::alloc::AllocGlobal;
 use std::process::Abort;
 use std::test::Fail;
@@ -28,20 +27,6 @@ fn turns_of(rt: &(impl Abort + AllocGlobal), workers: &[u32]) -> Result<Vec<Turn
     Ok(turns)
 }
 
-// A job on the moves in a text, along the list of a column or the standard list.
-fn job_on(rt: &(impl Abort + AllocGlobal), text: &str, column: Option<u32>) -> Result<Job, Fail>
-    ensures start { IfOk result (λ job. length job.start.moves ≤ job.basis_limit) }
-    ensures limit { IfOk result (λ job. job.basis_limit ≤ 65536) }
-{
-    let start = start_of(rt, text, column)?;
-    assert!(rt; start.len() <= 65_536);
-    Ok(Job {
-        start,
-        budget: 100,
-        basis_limit: 65_536,
-    })
-}
-
 // Two workers take these turns on the moves in a text, along the list of a column or the standard list.
 fn driven(
     rt: &(impl Abort + AllocGlobal),
@@ -49,8 +34,14 @@ fn driven(
     column: Option<u32>,
     workers: &[u32],
 ) -> Result<Ledger, Fail> {
-    let job = job_on(rt, text, column)?;
+    let start = start_of(rt, text, column)?;
+    assert!(rt; start.len() <= 65_536);
     let schedule = turns_of(rt, workers)?;
+    let job = Job {
+        start,
+        budget: 100,
+        basis_limit: 65_536,
+    };
     let ledger = drive(rt.alloc(), job, 2, &schedule)?;
     assert_eq!(rt; ledger.workers(), 2);
     Ok(ledger)
@@ -112,49 +103,5 @@ fn workers_in_turn_end(rt: HostRuntime) -> Result<(), Fail> {
     assert_moves(&rt, ledger.basis(), MOVES[1])?;
     assert_eq!(rt; ledger.settled_count(), 3);
     assert_eq!(rt; ledger.claims_made(), 3);
-    Ok(())
-}
-
-// Memory is refused at turns of two workers on the three overlapping moves. A worker that halts gives its claim up, and is gone; the
-// other may still settle its own.
-#[test]
-fn a_refused_worker_halts_and_is_gone(rt: HostRuntime) -> Result<(), Fail> {
-    let held = Some((0, 2));
-    let rows = [
-        (&[0, 1, 0][..], &[2][..], held, 2, 0, true, OVERLAPPING),
-        (
-            &[0, 1, 0, 0, 0][..],
-            &[4, 2][..],
-            held,
-            2,
-            0,
-            true,
-            OVERLAPPING,
-        ),
-        (&[0, 1, 1][..], &[0][..], None, 0, 0, true, OVERLAPPING),
-        (&[0, 1][..], &[2][..], held, 2, 0, false, OVERLAPPING),
-        (
-            &[0, 1, 0, 1, 1, 1, 1, 1][..],
-            &[2][..],
-            None,
-            2,
-            1,
-            true,
-            ONE_PLACED,
-        ),
-    ];
-    for (workers, refused, claim, made, settled, is_halted, moves) in rows {
-        let job = job_on(&rt, OVERLAPPING, None)?;
-        let schedule = turns_of(&rt, workers)?;
-        let ledger = drive_halting(rt.alloc(), job, 2, &schedule, refused)?;
-        assert_eq!(rt; ledger.workers(), 2);
-        assert_eq!(rt; ledger.claim_of(0).is_none(), is_halted);
-        assert_eq!(rt; ledger.claim_of(1), claim);
-        assert_eq!(rt; ledger.claims_made(), made);
-        assert_eq!(rt; ledger.settled_count(), settled);
-        let halted = matches!(ledger.first_halt(), Some(Halt::Memory));
-        assert_eq!(rt; halted, is_halted);
-        assert_moves(&rt, ledger.basis(), moves)?;
-    }
     Ok(())
 }

@@ -12,5 +12,6 @@ pub mod RunsOfWeight
 pub mod LowerFronts
 pub mod ChosenMoves
 pub mod GatheredLinks
+pub mod SharedPairs
 pub mod StageSteps
 pub mod Faults

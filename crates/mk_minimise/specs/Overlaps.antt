@@ -1,10 +1,13 @@
 -- The pairs of a list whose leads overlap with a least common multiple of one weight. (Sturmfels, chapter 1: S-pairs)
-use Rattle.std.specs.Prelude.{◌≡◌, ◌≢◌, ◌⊎◌, ℕ, ◌<◌, List, length, All, Contains, ℤ}
-use Rattle.mk_model.specs.CoreStates.{Pair, pair_of, move_at, IsLesser}
+use Rattle.std.specs.Prelude.{◌≡◌, ◌≢◌, ◌⊎◌, ℕ, ◌<◌, List, length, All, Contains, Option, ℤ}
+use Rattle.mk_model.specs.CoreStates.{Pair, pair_of, move_at, IsLesser, IsPairOf}
 use Rattle.mk_model.specs.Orders.{lead}
 use Rattle.mk_model.specs.Pairs.{AreDisjoint}
 use Rattle.mk_model.specs.Reductions.{lcm}
 use Rattle.mk_model.specs.Vectors.{weight}
+use Rattle.mk_move.specs.Moves.{Weighed}
+use Rattle.mk_move.specs.MoveLists.{BasisView}
+use Rattle.mk_reduce.specs.Remainders.{IsRemainder}
 use Rattle.mk_minimise.specs.declared.overlaps.Overlap.{Overlap}
 
 -- the least common multiple of the leads of two places
@@ -44,3 +47,11 @@ pub record ListsBefore (w : List ℤ) (moves : List (List ℤ)) (bound : ℤ) (f
 pub record AreOverlaps (w : List ℤ) (moves : List (List ℤ)) (bound : ℤ) (pairs : List Overlap) : Type 0 where
   pub each : All (IsOverlap w moves bound) pairs
   pub every : (i j : ℕ) → i < j → j < length moves → IsListed w moves bound pairs i j
+
+-- the places of the pair are two of the list, the lesser first
+abbrev pub IsPlacePair : List (List ℤ) → Overlap → Type 0
+IsPlacePair moves pair = IsPairOf moves (pair_of pair.first pair.second)
+
+-- what is left of the pair's difference, reduced by the basis
+abbrev pub IsRemainderOf : BasisView → Overlap → Option Weighed → Type 0
+IsRemainderOf basis pair rest = IsRemainder basis (pair_of pair.first pair.second) rest

@@ -85,7 +85,7 @@ pub(crate) fn links_of(
 }
 
 /// What is left of the difference of a pair of lower moves, reduced by them: none for zero.
-fn remainder_of(
+pub(crate) fn remainder_of(
     scratch: &mut Scratch,
     lower: &Lower,
     i: u32,

@@ -5,7 +5,7 @@ use Rattle.mk_minimise.specs.Stages.{weight_at, IsFront, AreChosen}
 use Rattle.mk_minimise.proofs.minimal.chosen_of.Given as goal
 
 abbrev pub invariant-loop-alloc : goal.invariant-loop-alloc
-invariant-loop-alloc l = record {
+invariant-loop-alloc g l = record {
   front : IsFront l.basis l.lower;
   light : (k : ℕ) → k < length l.lower.moves → IsUpTo l.upto (weight_at l.basis k);
   chosen : AreChosen (length l.basis.grading) l.basis.grading (vectors_of l.basis.moves) (length l.lower.moves) (vectors_of l.chosen.items);
@@ -14,4 +14,4 @@ invariant-loop-alloc l = record {
 }
 
 abbrev pub decreases-loop-alloc : goal.decreases-loop-alloc
-decreases-loop-alloc l = length l.basis.moves - length l.lower.moves
+decreases-loop-alloc g l = length l.basis.moves - length l.lower.moves

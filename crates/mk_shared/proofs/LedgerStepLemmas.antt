@@ -58,8 +58,11 @@ module _ (x y : LedgerView) (legal : IsLedger x) (legal_then : IsLedger y) where
   }
 
   pub places_in_turn : (worker front : ℕ) (m : Weighed) (answer : Result ℕ PlaceFault) → IsPlacing x worker front m answer y → PlacesInTurn x worker front m answer y
-  places_in_turn worker front m (Ok p) h = (by_event worker (Settles worker (Place p)) refl h.settling
-      (record { priority = ap (λ b. b.priority) h.pushed; grading = ap (λ b. b.grading) h.pushed; more = m ∷ []; moves = ap (λ b. b.moves) h.pushed }), h)
+  places_in_turn worker front m (Ok p) h = (
+    by_event worker (Settles worker (Place p)) refl h.settling
+        (record { priority = ap (λ b. b.priority) h.pushed; grading = ap (λ b. b.grading) h.pushed; more = m ∷ []; moves = ap (λ b. b.moves) h.pushed }),
+    h,
+  )
   places_in_turn worker front m (Err (place.Memory given)) h = (unchanged worker h.3, h)
   places_in_turn worker front m (Err (place.Behind count given)) h = (unchanged worker h.3, h)
   places_in_turn worker front m (Err place.BasisFull) h = (by_event worker (Halts worker (Full h.2.pair)) refl h.2.halting (longer_same x.basis y.basis h.3), h)

@@ -198,15 +198,17 @@ module _ (s t : Inside) (held : Sight) (x y : LedgerView) (h : Turned s t held x
   claims_whole (Claimed i j) g some told =
       let a = answer_of (Claimed i j) g in
       let number = ap (λ n. record x { state = with_claim x.state n (pair_of i j) }) h.fields.number in
-      let st = claimed s t held x y h i j a.claim (g.changed ∙ number) some copy in
-      (st.fields, record {
-        ledger = x;
-        turn = the_turn s t held x y h;
-        answers = a;
-        another = tt;
-        changed = st.seat ∙ rw (copy, told, kept) refl;
-        keeps = ap (λ (b : SeatView). b.sight.claim) st.seat;
-      })
+      let st = claimed s t held x y h i j a.claim (g.changed ∙ number) some copy in (
+        st.fields,
+        record {
+          ledger = x;
+          turn = the_turn s t held x y h;
+          answers = a;
+          another = tt;
+          changed = st.seat ∙ rw (copy, told, kept) refl;
+          keeps = ap (λ (b : SeatView). b.sight.claim) st.seat;
+        },
+      )
   claims_whole Ended g none told = let a = answer_of Ended g in let st = look Ended g.changed a none in
       (st.fields, record { ledger = x; turn = the_turn s t held x y h; answers = a; another = tt; changed = st.seat ∙ rw (copy, told, kept) refl; keeps = kept_answer Ended g.changed a none })
   claims_whole (OverBudget made) g none told = let a = answer_of (OverBudget made) g in let st = look (OverBudget made) g.changed a none in

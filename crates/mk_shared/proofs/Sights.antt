@@ -196,7 +196,7 @@ module _ (v : Sight) (copy : BasisView) (agrees : AgreesWithCopy v copy) where
     begins_then seen more e = (
       agrees.first_moves.0 ++ (knows.saw.0 ++ more),
       e ∙ ap (λ ms. ms ++ more) (knows.saw.1 ∙ ap (λ ms. ms ++ knows.saw.0) agrees.first_moves.1) ∙ append_assoc (copy.moves ++ agrees.first_moves.0) knows.saw.0 more
-      ∙ append_assoc copy.moves agrees.first_moves.0 (knows.saw.0 ++ more),
+          ∙ append_assoc copy.moves agrees.first_moves.0 (knows.saw.0 ++ more),
     )
 
     enough : length copy.moves ≤ length x.basis.moves

@@ -38,11 +38,7 @@ impl Model for SharedCompletion {
 impl SharedCompletion {
     /// A completion of a job by so many workers, 1 to 64, and its first seat, which has number 0 and a copy of the start. The
     /// basis limit is at most 65,536 and no less than the start.
-    pub fn start(
-        alloc: Global,
-        job: Job,
-        workers: u32,
-    ) -> Result<(SharedCompletion, Seat), Stopped>
+    pub fn start(alloc: Global, job: Job, workers: u32) -> Result<(SharedCompletion, Seat), Stopped>
         requires room { length job.start.moves ≤ job.basis_limit }
         requires limit { job.basis_limit ≤ 65536 }
         requires some { 1 ≤ workers }
@@ -138,11 +134,7 @@ impl SharedCompletion {
 }
 
 /// The table of a new ledger, and its first seat.
-fn start_table(
-    alloc: Global,
-    job: Job,
-    workers: u32,
-) -> Result<(SharedCompletion, Seat), NoMemory>
+fn start_table(alloc: Global, job: Job, workers: u32) -> Result<(SharedCompletion, Seat), NoMemory>
     requires room { length job.start.moves ≤ job.basis_limit }
     requires limit { job.basis_limit ≤ 65536 }
     requires some { 1 ≤ workers }

@@ -93,12 +93,7 @@ impl SharedCompletion {
     }
 
     /// Settles the seat's claim by a copy of what is left of the work, unless the basis has more moves than reduced it.
-    fn try_place(
-        &self,
-        seat: &mut Seat,
-        work: &Work,
-        rest: &Move,
-    ) -> Result<SettledBy, SettleFault>
+    fn try_place(&self, seat: &mut Seat, work: &Work, rest: &Move) -> Result<SettledBy, SettleFault>
         requires table { seat.old.table ≡ self.now }
         requires work { HasWorkDone seat.old work.now }
         requires rest { work.now.remainder ≡ Some rest.now }

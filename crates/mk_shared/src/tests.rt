@@ -3,7 +3,9 @@ ghost use Rattle.std.specs.Prelude.{◌≡◌, ◌+◌, ◌<◌, ◌≤◌, leng
 ghost use Rattle.mk_model.specs.Vectors.{IsEntry};
 ghost use Rattle.mk_shared.specs.SharedSeats.{HasWorkDone};
 
-use crate::{Busy, RefreshFault, Seat, SettleFault, SettledBy, SharedCompletion, SplitFault, TryChainFault};
+use crate::{
+    Busy, RefreshFault, Seat, SettleFault, SettledBy, SharedCompletion, SplitFault, TryChainFault,
+};
 use mk_core::{Job, Kind, finder_of};
 use mk_ledger::{Claim, Halt};
 use mk_model::Entry;
@@ -132,15 +134,30 @@ fn a_seat_that_is_behind_refreshes(rt: HostRuntime) -> Result<(), Fail> {
     assert_eq!(rt; second.number(), 1);
     let third = shared.split(&mut first);
     assert!(rt; matches!(third, Err(SplitFault::Seats { made: 2 })));
-    assert_eq!(rt; claim(&rt, &shared, &mut first), Claim::Claimed { i: 0, j: 1 });
-    assert_eq!(rt; claim(&rt, &shared, &mut second), Claim::Claimed { i: 0, j: 2 });
+    assert_eq!(rt;
+        claim(&rt, &shared, &mut first),
+        Claim::Claimed { i: 0, j: 1 }
+    );
+    assert_eq!(rt;
+        claim(&rt, &shared, &mut second),
+        Claim::Claimed { i: 0, j: 2 }
+    );
     let behind = work_of(&rt, &first)?;
-    assert_eq!(rt; settle(&rt, &shared, &mut second)?, Ok(SettledBy::Placed { place: 3 }));
-    assert_eq!(rt; shared.try_settle(&mut first, &behind), Err(SettleFault::Behind { length: 4 }));
+    assert_eq!(rt;
+        settle(&rt, &shared, &mut second)?,
+        Ok(SettledBy::Placed { place: 3 })
+    );
+    assert_eq!(rt;
+        shared.try_settle(&mut first, &behind),
+        Err(SettleFault::Behind { length: 4 })
+    );
     assert_eq!(rt; shared.news(&mut first), 4);
     assert_eq!(rt; shared.try_refresh(&mut first), Ok(4));
     assert_move(&rt, first.basis(), 3, [2, 0, -2, 0]);
-    assert_eq!(rt; settle(&rt, &shared, &mut first)?, Ok(SettledBy::Placed { place: 4 }));
+    assert_eq!(rt;
+        settle(&rt, &shared, &mut first)?,
+        Ok(SettledBy::Placed { place: 4 })
+    );
     assert_eq!(rt; shared.try_refresh(&mut second), Ok(5));
     assert_move(&rt, second.basis(), 4, [0, 2, -2, 0]);
     Ok(())
@@ -171,13 +188,19 @@ fn settle_through(
 fn a_seat_that_halts_stops_the_other(rt: HostRuntime) -> Result<(), Fail> {
     let (shared, mut first) = begun(&rt, overlapping(rt.alloc())?, 65_536, 2)?;
     let mut second = shared.split(&mut first)?;
-    assert_eq!(rt; claim(&rt, &shared, &mut first), Claim::Claimed { i: 0, j: 1 });
+    assert_eq!(rt;
+        claim(&rt, &shared, &mut first),
+        Claim::Claimed { i: 0, j: 1 }
+    );
     let unsettled = settle_through(&rt, &shared, &mut first, 2);
     assert_eq!(rt; unsettled, Err(TryChainFault::Unsettled { i: 0, j: 2 }));
     assert!(rt; first.claim().is_some() && !first.is_done());
     assert!(rt; shared.try_stop(&mut first, Halt::Memory).is_ok());
     assert!(rt; first.claim().is_none() && first.is_done());
-    assert_eq!(rt; claim(&rt, &shared, &mut second), Claim::Stopped { worker: 0 });
+    assert_eq!(rt;
+        claim(&rt, &shared, &mut second),
+        Claim::Stopped { worker: 0 }
+    );
     assert!(rt; second.is_done());
     assert_eq!(rt; first.misses() + second.misses(), 0);
     Ok(())
@@ -187,10 +210,19 @@ fn a_seat_that_halts_stops_the_other(rt: HostRuntime) -> Result<(), Fail> {
 #[test]
 fn a_seat_halts_where_the_basis_is_full(rt: HostRuntime) -> Result<(), Fail> {
     let (shared, mut first) = begun(&rt, overlapping(rt.alloc())?, 3, 1)?;
-    assert_eq!(rt; claim(&rt, &shared, &mut first), Claim::Claimed { i: 0, j: 1 });
-    assert_eq!(rt; settle(&rt, &shared, &mut first)?, Err(SettleFault::BasisFull));
+    assert_eq!(rt;
+        claim(&rt, &shared, &mut first),
+        Claim::Claimed { i: 0, j: 1 }
+    );
+    assert_eq!(rt;
+        settle(&rt, &shared, &mut first)?,
+        Err(SettleFault::BasisFull)
+    );
     assert!(rt; first.claim().is_none() && first.is_done());
-    assert_eq!(rt; claim(&rt, &shared, &mut first), Claim::Stopped { worker: 0 });
+    assert_eq!(rt;
+        claim(&rt, &shared, &mut first),
+        Claim::Stopped { worker: 0 }
+    );
     Ok(())
 }
 
@@ -217,7 +249,10 @@ fn settle_apart(
 #[test]
 fn one_settle_ends_a_completion(rt: HostRuntime) -> Result<(), Fail> {
     let (shared, mut first) = begun(&rt, disjoint(rt.alloc())?, 65_536, 1)?;
-    assert_eq!(rt; claim(&rt, &shared, &mut first), Claim::Claimed { i: 0, j: 1 });
+    assert_eq!(rt;
+        claim(&rt, &shared, &mut first),
+        Claim::Claimed { i: 0, j: 1 }
+    );
     assert_eq!(rt; settle_apart(&rt, &shared, &mut first), Ok(()));
     assert_eq!(rt; claim(&rt, &shared, &mut first), Claim::Ended);
     assert!(rt; first.number() == 0 && first.claim().is_none() && first.is_done());
@@ -254,7 +289,10 @@ fn two_threads_claim_two_pairs(rt: HostRuntime) -> Result<(), Fail> {
         || claim_often(completion, first),
         || claim_often(completion, second),
     );
-    let pairs = [Some(Claim::Claimed { i: 0, j: 1 }), Some(Claim::Claimed { i: 0, j: 2 })];
+    let pairs = [
+        Some(Claim::Claimed { i: 0, j: 1 }),
+        Some(Claim::Claimed { i: 0, j: 2 }),
+    ];
     assert!(rt; pairs.contains(&a) && pairs.contains(&b) && a != b);
     Ok(())
 }

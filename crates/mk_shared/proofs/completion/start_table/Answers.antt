@@ -17,7 +17,7 @@ invariant_of-seat c =
     let ledger = c.in_ok-ledger.ledger in
     let same : x ≡ ledger = c.in_ok-new.ensures.ok in
     let agrees : AgreesWithCopy (beginning ledger_meaning x c.args.workers) c.in_ok-copy.copy =
-        subst (λ (l : LedgerView). AgreesWithCopy (beginning ledger_meaning l c.args.workers) c.in_ok-copy.copy) (sym same)
-        (subst (λ (b : BasisView). AgreesWithCopy (beginning ledger_meaning ledger c.args.workers) b) (sym c.in_ok-copy.ensures)
-        (first_agrees c.args.job c.args.workers ledger c.requires.some c.in_ok-ledger.ensures.basis (ap (λ (s : CoreState). s.workers) c.in_ok-ledger.ensures.state))) in
+    subst (λ (l : LedgerView). AgreesWithCopy (beginning ledger_meaning l c.args.workers) c.in_ok-copy.copy) (sym same)
+    (subst (λ (b : BasisView). AgreesWithCopy (beginning ledger_meaning ledger c.args.workers) b) (sym c.in_ok-copy.ensures)
+    (first_agrees c.args.job c.args.workers ledger c.requires.some c.in_ok-ledger.ensures.basis (ap (λ (s : CoreState). s.workers) c.in_ok-ledger.ensures.state))) in
     fields_by _ (beginning ledger_meaning x c.args.workers) c.in_ok-table.ensures.1 (record { agrees = agrees; number = refl; claim = refl; made = refl; workers = refl })

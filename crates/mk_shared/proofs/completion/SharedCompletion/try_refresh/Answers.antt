@@ -23,7 +23,7 @@ invariant_of-seat-2 c =
     let x = c.in-Some.shared in
     let h : Turned s t (turn_view c.take.new.turn) x x = record { fields = c.seat.invariant; takes = c.in-Some.ensures.some; gave = c.give.ensures.view; table = c.give.ensures.table ∙ c.take.ensures.table; number = refl; made = refl; workers = refl } in
     let within = copies_within s.copy x.basis t.copy c.copy_new-copied.result (copy_longer (seat_of s) c.seat.invariant.seat x (turn_of (seat_of s) x _ c.in-Some.ensures.some))
-        (subst (λ (b : BasisView). CopiesWhole s.copy b c.copy_new-copied.result t.copy) c.basis-2.ensures.value c.copy_new-copied.ensures) in
+    (subst (λ (b : BasisView). CopiesWhole s.copy b c.copy_new-copied.result t.copy) c.basis-2.ensures.value c.copy_new-copied.ensures) in
     (copied s t (turn_view c.take.new.turn) x x h refl refl refl refl within.0 within.1).fields
 
 pub returns : goal.returns
@@ -36,7 +36,7 @@ returns c =
     let within = copies_within s.copy x.basis t.copy c.copy_new-copied.result (copy_longer (seat_of s) c.seat.invariant.seat x (turn_of (seat_of s) x _ c.in-Some.ensures.some)) copies in
     subst (λ (b : SeatView). AnswersTryRefresh b c.match-copied.result (seat_of t)) c.seat.view_is
     (elim c.match-copied.branch [
-      in-Ok w ↦ subst (λ (r : Result ℕ RefreshFault). AnswersTryRefresh (seat_of s) r (seat_of t)) (sym w.result-is)
+      | in-Ok w ↦ subst (λ (r : Result ℕ RefreshFault). AnswersTryRefresh (seat_of s) r (seat_of t)) (sym w.result-is)
           (refreshed s t (turn_view c.take.new.turn) x x h refl refl refl refl within.0 within.1 c.len-length.result
           (c.len-length.ensures.value ∙ ap (λ (b : BasisView). length b.moves) c.basis.ensures.value) (w.in-Ok.ensures ∙ c.basis-2.ensures.value))
       | in-Err w ↦ subst (λ (r : Result ℕ RefreshFault). AnswersTryRefresh (seat_of s) r (seat_of t)) (sym w.result-is)

@@ -40,7 +40,7 @@ invariant_of-seat-in-Err-Unsettled c =
     let unsettled = pair_of c.in-Err-Unsettled.i c.in-Err-Unsettled.j in
     let is : c.in-Err-Unsettled.field-0 ≡ Unsettled c.in-Err-Unsettled.i c.in-Err-Unsettled.j = (rw c.in-Err-Unsettled.is at c.in-Err-Unsettled.field-0-is) in
     let stays : ChainsInTurn x s.number c.args.k (Err (Unsettled c.in-Err-Unsettled.i c.in-Err-Unsettled.j)) y =
-        subst (λ (r : Result Unit ChainFault). ChainsInTurn x s.number c.args.k r y) (c.in-Err-Unsettled.is ∙ ap Err is) c.settle_chain-settled.ensures in
+    subst (λ (r : Result Unit ChainFault). ChainsInTurn x s.number c.args.k r y) (c.in-Err-Unsettled.is ∙ ap Err is) c.settle_chain-settled.ensures in
     let h : Turned s t (turn_view c.take.new.turn) x y = record { fields = c.seat.invariant; takes = c.in-Some.ensures.some; gave = c.give.ensures.view; table = c.give.ensures.table ∙ c.take.ensures.table; number = refl; made = refl; workers = refl } in
     (looked s t (turn_view c.take.new.turn) x y h stays.0.1 refl refl).fields
 
@@ -53,7 +53,7 @@ returns-in-Err-Unsettled c =
     let unsettled = pair_of c.in-Err-Unsettled.i c.in-Err-Unsettled.j in
     let is : c.in-Err-Unsettled.field-0 ≡ Unsettled c.in-Err-Unsettled.i c.in-Err-Unsettled.j = (rw c.in-Err-Unsettled.is at c.in-Err-Unsettled.field-0-is) in
     let stays : ChainsInTurn x s.number c.args.k (Err (Unsettled c.in-Err-Unsettled.i c.in-Err-Unsettled.j)) y =
-        subst (λ (r : Result Unit ChainFault). ChainsInTurn x s.number c.args.k r y) (c.in-Err-Unsettled.is ∙ ap Err is) c.settle_chain-settled.ensures in
+    subst (λ (r : Result Unit ChainFault). ChainsInTurn x s.number c.args.k r y) (c.in-Err-Unsettled.is ∙ ap Err is) c.settle_chain-settled.ensures in
     let h : Turned s t (turn_view c.take.new.turn) x y = record { fields = c.seat.invariant; takes = c.in-Some.ensures.some; gave = c.give.ensures.view; table = c.give.ensures.table ∙ c.take.ensures.table; number = refl; made = refl; workers = refl } in
     subst (λ (b : SeatView). IsUnsettledTurn b c.args.k unsettled (seat_of t)) c.seat.view_is
     (unsettled_turn s t (turn_view c.take.new.turn) x y h stays.0.1 refl refl refl refl c.args.k unsettled stays.1)

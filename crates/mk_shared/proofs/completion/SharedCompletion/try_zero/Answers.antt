@@ -24,10 +24,12 @@ returns-in-Ok c =
     let x = c.in-Some.shared in
     let y = c.settle_zero-settled.new.self in
     let work = (subst (λ (b : SeatView). HasWorkDone b c.args.work.now) (sym c.seat.view_is) c.requires.work) in
-    let h : Turned s t (turn_view c.take.new.turn) x y = record { fields = c.seat.invariant; takes = c.in-Some.ensures.some; gave = c.give.ensures.view; table = c.give.ensures.table ∙ c.take.ensures.table; number = refl; made = refl; workers = refl } in
-    (c.requires.none, subst (λ (b : SeatView). IsSettledTurn b Zero (seat_of t)) c.seat.view_is
-    (settled_turn s t (turn_view c.take.new.turn) x y h refl Zero c.in-Ok.ensures.ok c.args.work.now.pair work.claimed refl refl refl
-    (ap (λ (u : CoreState). u.basis) c.in-Ok.ensures.ok.settling.changed ∙ c.in-Ok.ensures.ok.settling.settled.1)))
+    let h : Turned s t (turn_view c.take.new.turn) x y = record { fields = c.seat.invariant; takes = c.in-Some.ensures.some; gave = c.give.ensures.view; table = c.give.ensures.table ∙ c.take.ensures.table; number = refl; made = refl; workers = refl } in (
+      c.requires.none,
+      subst (λ (b : SeatView). IsSettledTurn b Zero (seat_of t)) c.seat.view_is
+          (settled_turn s t (turn_view c.take.new.turn) x y h refl Zero c.in-Ok.ensures.ok c.args.work.now.pair work.claimed refl refl refl
+          (ap (λ (u : CoreState). u.basis) c.in-Ok.ensures.ok.settling.changed ∙ c.in-Ok.ensures.ok.settling.settled.1)),
+    )
 
 pub invariant_of-seat-in-Err : goal.invariant_of-seat-in-Err
 invariant_of-seat-in-Err c =

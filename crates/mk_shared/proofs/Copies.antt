@@ -1,30 +1,24 @@
 -- What a seat knows by its copy is so in the ledger that it took.
-use Rattle.std.proofs.Common.{◌≡◌, ◌≢◌, ◌⊎◌, inl, inr, ℕ, ◌+◌, ◌<◌, ◌≤◌, List, [], ◌∷◌, ◌++◌, length, take, Option, None, Some, IfSome, refl, sym, ap, ◌∙◌, subst, arith, append_assoc, length-append, ℤ}
-use Rattle.std.proofs.lemmas.Option.{none-some, same_Some}
+use Rattle.std.proofs.Common.{◌≡◌, ℕ, ◌<◌, ◌≤◌, List, [], ◌∷◌, ◌++◌, length, take, Option, None, Some, IfSome, refl, sym, ap, ◌∙◌, subst, arith, append_assoc, length-append}
+use Rattle.std.proofs.lemmas.Option.{same_Some}
 use Rattle.std.proofs.lemmas.List.{append-nil, length-map, take_all}
-use Rattle.std.proofs.Math.Nat.{le_trans}
 use Rattle.mk_model.specs.Vectors.{zeros}
-use Rattle.mk_model.specs.CoreStates.{Pair, pair_of, Way, Settle, Halt, CoreState, claim_of, halt_of, move_at, difference, IsPairOf}
+use Rattle.mk_model.specs.CoreStates.{Pair, Halt, claim_of, halt_of, move_at, difference, IsPairOf}
 use Rattle.mk_model.specs.CoreStates.Halt.{Overflow, Full, Memory}
 use Rattle.mk_model.specs.Events.{IsHaltCause}
-use Rattle.mk_model.specs.Orders.{lead}
-use Rattle.mk_model.specs.Pairs.{AreDisjoint}
 use Rattle.mk_model.specs.Reductions.{Reduct, IsNormal}
 use Rattle.mk_model.proofs.Journals.{move_at-append}
 use Rattle.mk_move.specs.Moves.{Weighed}
-use Rattle.mk_move.specs.MoveLists.{BasisView, vectors_of}
-use Rattle.mk_move.specs.Chains.{DividesBetween}
+use Rattle.mk_move.specs.MoveLists.{vectors_of}
 use Rattle.mk_reduce.specs.Works.{TheWork, WorkOf, rest_of, IsRest}
 use Rattle.mk_reduce.proofs.LongerBases.{WorkOf-append}
-use Rattle.mk_ledger.specs.declared.claims.Claim.{Claim}
-use Rattle.mk_ledger.specs.Ledgers.{LedgerView, IsLedger}
+use Rattle.mk_ledger.specs.Ledgers.{LedgerView}
 use Rattle.mk_ledger.specs.Settlings.{IsZeroClaim, IsCoprimeClaim, IsChainClaim, NotFull}
 use Rattle.mk_core.specs.Seats.{IsLonger, IsRestOfClaim}
 use Rattle.mk_core.proofs.Seats.{state_moves, first_seen, second_seen, overflow_whole, claim_of_basis, not_halted_yet, as_many}
-use Rattle.mk_turn.specs.Turns.{Knows}
 use Rattle.mk_shared.specs.declared.state.Outset.{Outset}
-use Rattle.mk_shared.specs.LedgerTurns.{ledger_meaning, outset_of}
-use Rattle.mk_shared.specs.SharedSeats.{Sight, SeatView, AgreesWithCopy, IsSeat, HasClaim, HasCoprimeClaim, HasThirdMove, HasWorkDone, IsStop, IsTurnOf, TakesLedger}
+use Rattle.mk_shared.specs.LedgerTurns.{outset_of}
+use Rattle.mk_shared.specs.SharedSeats.{Sight, SeatView, IsSeat, HasClaim, HasCoprimeClaim, HasThirdMove, HasWorkDone, IsStop, IsTurnOf, TakesLedger}
 
 -- the turn that a seat has by its sight
 pub turn_of : (seat : SeatView) (x : LedgerView) (after : Sight) → TakesLedger x seat.sight after → IsTurnOf seat x

@@ -1,9 +1,9 @@
 -- What is done to a ledger while one seat has the turn is nothing, or one event of that seat.
-use Rattle.std.proofs.Common.{◌≡◌, ◌≢◌, inl, inr, ℕ, ◌++◌, [], ◌∷◌, List, Result, Ok, Err, None, Some, refl, sym, ap, ◌∙◌, subst, length}
-use Rattle.mk_model.specs.CoreStates.{Pair, pair_of, Way, CoreState, Halt}
+use Rattle.std.proofs.Common.{◌≡◌, inl, inr, ℕ, [], ◌∷◌, Result, Ok, Err, refl, sym, ap, subst, length}
+use Rattle.mk_model.specs.CoreStates.{Way, CoreState, Halt}
 use Rattle.mk_model.specs.CoreStates.Way.{Chain, Place}
 use Rattle.mk_model.specs.CoreStates.Halt.{Full}
-use Rattle.mk_model.specs.Events.{Event, Happens, IsClaim, IsSettling, IsHalting, with_claim, with_halt}
+use Rattle.mk_model.specs.Events.{Event, Happens, IsClaim, IsSettling, IsHalting}
 use Rattle.mk_model.specs.Events.Event.{Claims, Settles, Halts}
 use Rattle.mk_move.specs.Moves.{Weighed}
 use Rattle.mk_ledger.specs.declared.claims.Claim.{Claim}
@@ -12,20 +12,20 @@ use Rattle.mk_ledger.specs.declared.ledger.ChainFault.{ChainFault}
 use Rattle.mk_ledger.specs.declared.ledger.ChainFault.TheVariants as chain
 use Rattle.mk_ledger.specs.declared.ledger.PlaceFault.{PlaceFault}
 use Rattle.mk_ledger.specs.declared.ledger.PlaceFault.TheVariants as place
-use Rattle.mk_ledger.specs.Claims.{AnswersClaim, IsGiven}
+use Rattle.mk_ledger.specs.Claims.{AnswersClaim}
 use Rattle.mk_ledger.specs.Ledgers.{LedgerView, IsLedger}
-use Rattle.mk_ledger.specs.Settlings.{AnswersChain, IsPlacing, IsPlacedLast, HaltsFull}
+use Rattle.mk_ledger.specs.Settlings.{AnswersChain, IsPlacing}
 use Rattle.mk_core.specs.Seats.{IsLonger}
 use Rattle.mk_core.proofs.Seats.{longer_same}
-use Rattle.mk_shared.specs.LedgerTurns.{worker_of, IsEventOf}
-use Rattle.mk_shared.specs.LedgerSteps.{FollowsLegal, state_claimed, ClaimsInTurn, StaysInTurn, SettlesInTurn, ChainsInTurn, HaltsInTurn, PlacesInTurn}
+use Rattle.mk_shared.specs.LedgerTurns.{acting_worker}
+use Rattle.mk_shared.specs.LedgerSteps.{FollowsLegal, ClaimsInTurn, SettlesInTurn, ChainsInTurn, HaltsInTurn, PlacesInTurn}
 
 -- a ledger with this basis and this state
 with_state : (x y : LedgerView) (state : CoreState) → y.basis ≡ x.basis → y.state ≡ state → y ≡ record x { state = state }
 with_state x y state e f = rw (← e, ← f) refl
 
 module _ (x y : LedgerView) (legal : IsLedger x) (legal_then : IsLedger y) where
-  by_event : (worker : ℕ) (event : Event) → worker_of event ≡ worker → Happens (length x.basis.grading) x.basis.priority x.state event y.state → IsLonger x.basis y.basis → FollowsLegal worker x y
+  by_event : (worker : ℕ) (event : Event) → acting_worker event ≡ worker → Happens (length x.basis.grading) x.basis.priority x.state event y.state → IsLonger x.basis y.basis → FollowsLegal worker x y
   by_event worker event by happens longer = (legal, inr (record { legal = legal; stays_legal = legal_then; event = event; by = by; happens = happens; longer = longer }))
 
   unchanged : (worker : ℕ) → y ≡ x → FollowsLegal worker x y

@@ -1,5 +1,5 @@
 -- What is left of a claim, oriented, may be placed.
-use Rattle.std.proofs.Common.{◌≡◌, ℕ, length, take, refl, sym, ap, ◌∙◌, subst, arith}
+use Rattle.std.proofs.Common.{◌≡◌, ℕ, length, take, sym, ◌∙◌, subst, arith}
 use Rattle.std.proofs.lemmas.List.{take_all}
 use Rattle.mk_model.specs.CoreStates.{difference}
 use Rattle.mk_model.specs.Reductions.{Reduct, IsNormal}

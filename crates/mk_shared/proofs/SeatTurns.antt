@@ -1,8 +1,8 @@
 -- A seat after each kind of turn, whole: its fields agree, and what contracts see of it is as they say.
-use Rattle.std.proofs.Common.{inl, inr, ◌≡◌, ◌≢◌, ◌<◌, ◌≤◌, ℕ, Bool, true, None, Some, Option, MatchOption, Result, Ok, Err, length, arith, length-append, refl, sym, ap, ◌∙◌, subst}
+use Rattle.std.proofs.Common.{inl, inr, ◌≡◌, ◌≢◌, ◌<◌, ℕ, true, None, Some, Option, MatchOption, Result, Ok, Err, length, arith, length-append, refl, sym, ap, ◌∙◌, subst}
 use Rattle.std.proofs.lemmas.Option.{none-some, same_Some}
 use Rattle.atomic_table.proofs.Lists.{at_last}
-use Rattle.mk_model.specs.CoreStates.{Pair, pair_of, Way, Halt, CoreState, claim_of}
+use Rattle.mk_model.specs.CoreStates.{Pair, pair_of, Way, Halt, claim_of}
 use Rattle.mk_model.specs.Events.{IsSettling, IsHalting, IsClaim, with_claim}
 use Rattle.mk_model.specs.CoreStates.Way.{Place}
 use Rattle.mk_model.specs.CoreStates.Halt.{Full}
@@ -18,12 +18,12 @@ use Rattle.mk_ledger.specs.Settlings.{OfClaim, IsFirstUnsettled}
 use Rattle.mk_core.specs.Seats.{IsLonger}
 use Rattle.mk_core.proofs.Seats.{longer_same}
 use Rattle.mk_turn.specs.Seats.{turn_view}
-use Rattle.mk_turn.specs.Turns.{Gave, took, missed, raised}
+use Rattle.mk_turn.specs.Turns.{Gave, took, raised}
 use Rattle.mk_shared.specs.LedgerTurns.{ledger_meaning}
 use Rattle.mk_shared.specs.LedgerSteps.{FollowsLegal, state_claimed, ClaimsInTurn, SettlesInTurn}
 use Rattle.mk_shared.specs.Placing.{IsCopyPlaced, IsBasisFilled}
 use Rattle.mk_shared.specs.SeatFields.{seat_of, AreSeatFields}
-use Rattle.mk_shared.specs.SharedAnswers.{IsPlacedTurn, IsFullTurn, ends, claimed_places, CopiesWhole, IsRefreshed, IsRefreshedInPart, IsClaimOf, IsLook, IsSettledTurn, IsUnsettledTurn}
+use Rattle.mk_shared.specs.SharedAnswers.{IsPlacedTurn, IsFullTurn, leaves_nothing, claimed_places, CopiesWhole, IsRefreshed, IsRefreshedInPart, IsClaimOf, IsLook, IsSettledTurn, IsUnsettledTurn}
 use Rattle.mk_shared.specs.SharedSeats.{SeatView, Sight, AgreesWithCopy, IsTurnOf, WasTold, TakesLedger, after_look, after_claim, after_settle, after_place, after_halt}
 use Rattle.mk_shared.specs.declared.seat.Seat.TheInside.{Inside}
 use Rattle.mk_shared.proofs.Sights.{look_back, claim_back, settle_back, halt_back, place_back, look_agrees, claim_agrees, settle_agrees, halt_agrees, place_agrees, seat_now}
@@ -194,7 +194,7 @@ module _ (s t : Inside) (held : Sight) (x y : LedgerView) (h : Turned s t held x
     kept_answer : WasTold (turn_view t.turn) answer
     kept_answer = told_last answer a (turn_view t.turn) (looked_sight s t held x y h same)
 
-  pub claims_whole : (answer : Claim) → ClaimsInTurn x s.number answer y → t.claim ≡ claimed_places answer → t.told_end ≡ ends answer → AreSeatFields t × IsClaimOf (seat_of s) answer (seat_of t)
+  pub claims_whole : (answer : Claim) → ClaimsInTurn x s.number answer y → t.claim ≡ claimed_places answer → t.told_end ≡ leaves_nothing answer → AreSeatFields t × IsClaimOf (seat_of s) answer (seat_of t)
   claims_whole (Claimed i j) g some told =
       let a = answer_of (Claimed i j) g in
       let number = ap (λ n. record x { state = with_claim x.state n (pair_of i j) }) h.fields.number in

@@ -1,5 +1,5 @@
 -- What a seat knows after a turn of it.
-use Rattle.std.proofs.Common.{◌≡◌, ◌≢◌, ◌⊎◌, inl, inr, ℕ, ◌+◌, ◌<◌, ◌≤◌, eqb, Bool, false, true, List, [], ◌∷◌, ◌++◌, length, Option, None, Some, refl, sym, ap, ◌∙◌, subst, arith, append_assoc, length-append}
+use Rattle.std.proofs.Common.{◌≡◌, ◌≢◌, ℕ, ◌+◌, ◌<◌, ◌≤◌, eqb, false, List, [], ◌∷◌, ◌++◌, length, Option, None, Some, refl, sym, ap, ◌∙◌, subst, arith, append_assoc, length-append}
 use Rattle.std.proofs.lemmas.Option.{same_Some}
 use Rattle.std.proofs.lemmas.List.{append-nil, get_or-set_same}
 use Rattle.std.proofs.lemmas.List.Elements.{filter-append}
@@ -16,10 +16,10 @@ use Rattle.mk_move.specs.MoveLists.{BasisView}
 use Rattle.mk_ledger.specs.Ledgers.{LedgerView, IsLedger}
 use Rattle.mk_ledger.specs.Settlings.{with_placed}
 use Rattle.mk_turn.specs.Meanings.{BeginsWith}
-use Rattle.mk_turn.specs.Turns.{Knows, Gave, took, missed, raised}
+use Rattle.mk_turn.specs.Turns.{Knows, Gave, took, raised}
 use Rattle.mk_shared.specs.LedgerTurns.{ledger_meaning, entries_by}
 use Rattle.mk_shared.specs.LedgerLaws.{distinct}
-use Rattle.mk_shared.specs.SharedSeats.{Sight, SeatView, AgreesWithCopy, IsTurnOf, after_look, after_claim, after_settle, after_place, after_halt}
+use Rattle.mk_shared.specs.SharedSeats.{Sight, SeatView, AgreesWithCopy, after_look, after_claim, after_settle, after_place, after_halt}
 
 -- one more entry of the worker is its last one
 one_more_by : (journal : List Settle) (entry : Settle) (worker : ℕ) → entry.worker ≡ worker → entries_by worker (journal ++ entry ∷ []) ≡ entries_by worker journal ++ entry ∷ []

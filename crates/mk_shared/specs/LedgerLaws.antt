@@ -1,16 +1,15 @@
 -- A ledger keeps the laws of a value that is changed in turns.
-use Rattle.std.proofs.Common.{◌≡◌, ◌≢◌, ◌⊎◌, inl, inr, ⊎_elim, ℕ, ◌+◌, ◌<◌, ◌≤◌, eqb, cond, Contains, ℤ, List, [], ◌∷◌, ◌++◌, length, take, set, get_or, Option, None, Some, refl, sym, ap, ◌∙◌, subst, length-append}
+use Rattle.std.proofs.Common.{◌≡◌, ◌≢◌, ◌⊎◌, inl, inr, ℕ, ◌+◌, ◌<◌, ◌≤◌, eqb, cond, Contains, ℤ, List, [], ◌∷◌, ◌++◌, length, take, None, Some, refl, sym, ap, ◌∙◌, subst, length-append}
 use Rattle.std.proofs.Math.Nat.{lt_irrefl, le-add_right}
 use Rattle.std.proofs.Math.Numerals.{lt-add-one}
 use Rattle.std.proofs.lemmas.Bool.{cases_eq, ne_eqb}
 use Rattle.std.proofs.lemmas.Option.{none-some, same_Some}
 use Rattle.std.proofs.lemmas.List.{append-nil, get_or-set_same, get_or-set_other, length-map, take-append-le}
 use Rattle.std.proofs.lemmas.List.Elements.{filter-append, Contains-append_left, Contains-push}
-use Rattle.mk_model.specs.CoreStates.{Pair, pair_of, Way, Settle, settle, Halt, CoreState, claim_of, halt_of, IsPairOf}
-use Rattle.mk_model.specs.Events.{Event, Happens, IsClaim, IsSettling, IsHalting, with_entry, first_of}
+use Rattle.mk_model.specs.CoreStates.{Pair, pair_of, Settle, settle, Halt, CoreState, claim_of, halt_of}
+use Rattle.mk_model.specs.Events.{Event, Happens, first_of}
 use Rattle.mk_model.specs.Events.Event.{Claims, Settles, Halts}
 use Rattle.mk_model.specs.Legal.{IsLegal, IsEnded}
-use Rattle.mk_model.proofs.Journals.{settled_more, IsPairOf-append}
 use Rattle.mk_model.proofs.LegalEvents.{cleared_none}
 use Rattle.mk_ledger.specs.declared.claims.Claim.{Claim}
 use Rattle.mk_ledger.specs.declared.claims.Claim.TheVariants.{Claimed, NotYet, Ended, OverBudget, Stopped}
@@ -18,9 +17,9 @@ use Rattle.mk_ledger.specs.Claims.{AnswersClaim}
 use Rattle.mk_ledger.specs.Ledgers.{LedgerView, IsLedger}
 use Rattle.mk_move.specs.Moves.{Weighed}
 use Rattle.mk_core.specs.Seats.{IsLonger}
-use Rattle.mk_turn.specs.Meanings.{Laws, BeginsWith}
+use Rattle.mk_turn.specs.Meanings.{Laws}
 use Rattle.mk_shared.specs.declared.state.Outset.{Outset}
-use Rattle.mk_shared.specs.LedgerTurns.{ledger_meaning, entries_by, outset_of, worker_of, IsEventOf, IsHeldOrLeft, StaysTrue, BearsOut}
+use Rattle.mk_shared.specs.LedgerTurns.{ledger_meaning, entries_by, outset_of, acting_worker, IsHeldOrLeft, StaysTrue, BearsOut}
 
 no_next : (n : ℕ) → n ≡ n + 1 → ⊥
 no_next n e = lt_irrefl n (subst (λ k. n < k) (sym e) (lt-add-one n))
@@ -43,12 +42,12 @@ module _ (n : ℕ) (priority : List ℕ) (s t : CoreState) where
       (sym h.no_halt ∙ ap (λ (u : CoreState). halt_of u worker) (e ∙ h.changed) ∙ get_or-set_same s.halts worker (Some halt) None (subst (λ k. worker < k) (sym legal.halts_by_workers) h.worker_within))
 
   -- the claims and the entries of other workers stay
-  other_claim : (event : Event) → Happens n priority s event t → (k : ℕ) → k ≢ worker_of event → claim_of t k ≡ claim_of s k
+  other_claim : (event : Event) → Happens n priority s event t → (k : ℕ) → k ≢ acting_worker event → claim_of t k ≡ claim_of s k
   other_claim (Claims worker) h k apart = ap (λ (u : CoreState). claim_of u k) h.changed ∙ get_or-set_other s.claims worker k (Some h.pair) None apart
   other_claim (Settles worker way) h k apart = ap (λ (u : CoreState). claim_of u k) h.changed ∙ get_or-set_other s.claims worker k None None apart
   other_claim (Halts worker halt) h k apart = ap (λ (u : CoreState). claim_of u k) h.changed ∙ get_or-set_other s.claims worker k None None apart
 
-  other_entries : (event : Event) → Happens n priority s event t → (k : ℕ) → k ≢ worker_of event → entries_by k t.journal ≡ entries_by k s.journal
+  other_entries : (event : Event) → Happens n priority s event t → (k : ℕ) → k ≢ acting_worker event → entries_by k t.journal ≡ entries_by k s.journal
   other_entries (Claims worker) h k apart = ap (λ (u : CoreState). entries_by k u.journal) h.changed
   other_entries (Settles worker way) h k apart = ap (λ (u : CoreState). entries_by k u.journal) h.changed ∙ none_more s.journal (settle worker h.pair way)
       k (λ e. apart (sym e))
@@ -84,7 +83,7 @@ module _ (n : ℕ) (priority : List ℕ) (s t : CoreState) where
   still_stopped other (Halts worker halt) h b = ap (λ (u : CoreState). u.first_halted) h.changed ∙ ap (λ o. first_of o worker) b
 
   module _ (legal : IsLegal n priority s) where
-    own_claim : (event : Event) → Happens n priority s event t → (pair : Pair) → claim_of s (worker_of event) ≡ Some pair → IsHeldOrLeft t (worker_of event) pair
+    own_claim : (event : Event) → Happens n priority s event t → (pair : Pair) → claim_of s (acting_worker event) ≡ Some pair → IsHeldOrLeft t (acting_worker event) pair
     own_claim (Claims worker) h pair c = absurd (none-some pair (sym h.no_claim ∙ c))
     own_claim (Settles worker way) h pair c = inr (inl (
       settle worker h.pair way,
@@ -112,9 +111,9 @@ module _ (n : ℕ) (priority : List ℕ) (s t : CoreState) where
         go (inr apart) = ap (λ (u : CoreState). halt_of u other) h.changed ∙ get_or-set_other s.halts worker other (Some halt) None apart ∙ c
 
     still_held : (event : Event) → Happens n priority s event t → (other : ℕ) (pair : Pair) → IsHeldOrLeft s other pair → IsHeldOrLeft t other pair
-    still_held event h other pair (inl c) = go (cases_eq other (worker_of event))
+    still_held event h other pair (inl c) = go (cases_eq other (acting_worker event))
       where
-        go : (other ≡ worker_of event) ⊎ (other ≡ worker_of event → ⊥) → IsHeldOrLeft t other pair
+        go : (other ≡ acting_worker event) ⊎ (other ≡ acting_worker event → ⊥) → IsHeldOrLeft t other pair
         go (inl e) = subst (λ k. IsHeldOrLeft t k pair) (sym e) (own_claim event h pair (ap (claim_of s) (sym e) ∙ c))
         go (inr apart) = inl (other_claim event h other apart ∙ c)
     still_held event h other pair (inr (inl (entry, c, e, f))) = inr (inl (entry, still_there event h entry c, e, f))

@@ -1,5 +1,5 @@
 -- What a ledger means to those who change it in turns.
-use Rattle.std.specs.Prelude.{◌≡◌, ◌⊎◌, ℕ, List, length, take, filter, ◌==◌, Contains, Option, Some}
+use Rattle.std.specs.Prelude.{◌≡◌, ◌⊎◌, ℕ, List, length, take, filter, ◌==◌, Contains, Some}
 use Rattle.mk_model.specs.CoreStates.{Pair, pair_of, Settle, Halt, CoreState, claim_of, halt_of}
 use Rattle.mk_model.specs.Events.{Event, Happens}
 use Rattle.mk_model.specs.Events.Event.{Claims, Settles, Halts}
@@ -29,17 +29,17 @@ outset_of ledger = record {
 }
 
 -- who claims, settles or halts
-abbrev pub worker_of : Event → ℕ
-worker_of (Claims worker) = worker
-worker_of (Settles worker way) = worker
-worker_of (Halts worker halt) = worker
+abbrev pub acting_worker : Event → ℕ
+acting_worker (Claims worker) = worker
+acting_worker (Settles worker way) = worker
+acting_worker (Halts worker halt) = worker
 
 -- One event of the worker leads from the first legal ledger to the second, whose basis goes on from the first's.
 pub record IsEventOf (worker : ℕ) (before after : LedgerView) : Type 0 where
   pub legal : IsLedger before
   pub stays_legal : IsLedger after
   pub event : Event
-  pub by : worker_of event ≡ worker
+  pub by : acting_worker event ≡ worker
   pub happens : Happens (length before.basis.grading) before.basis.priority before.state event after.state
   pub longer : IsLonger before.basis after.basis
 

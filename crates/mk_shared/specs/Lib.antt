@@ -1,3 +1,4 @@
+pub mod GivenUp
 pub mod LedgerTurns
 pub mod LedgerLaws
 pub mod LedgerSteps

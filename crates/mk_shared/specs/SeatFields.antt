@@ -1,5 +1,5 @@
 -- The fields of a seat as what contracts see of it, and what they keep.
-use Rattle.std.specs.Prelude.{◌≡◌, ℕ, MatchOption, None, Some}
+use Rattle.std.specs.Prelude.{◌≡◌, MatchOption, None, Some}
 use Rattle.mk_model.specs.CoreStates.{pair_of}
 use Rattle.mk_turn.specs.Seats.{turn_view}
 use Rattle.mk_shared.specs.SharedSeats.{SeatView, IsSeat}

@@ -1,9 +1,9 @@
 -- What each call on a shared completion answers, and what is left of the seat that made it.
-use Rattle.std.specs.Prelude.{◌≡◌, ◌≢◌, ◌⊎◌, ℕ, ◌+◌, ◌<◌, ◌≤◌, Bool, true, false, length, Option, None, Some, Result, Ok, Err}
+use Rattle.std.specs.Prelude.{◌≡◌, ◌≢◌, ℕ, ◌+◌, ◌<◌, ◌≤◌, Bool, true, false, length, Option, None, Some, Result, Ok, Err}
 use Rattle.mk_model.specs.CoreStates.{Pair, pair_of, Way, CoreState, Halt, new_state, IsPairOf}
 use Rattle.mk_model.specs.CoreStates.Way.{Coprime, Chain, Zero, Place}
 use Rattle.mk_model.specs.CoreStates.Halt.{Full}
-use Rattle.mk_model.specs.Events.{IsSettling, IsHalting, with_claim, with_halt}
+use Rattle.mk_model.specs.Events.{IsSettling, IsHalting, with_halt}
 use Rattle.mk_move.specs.Moves.{Weighed, IsRowOriented}
 use Rattle.mk_move.specs.MoveLists.{BasisView, vectors_of}
 use Rattle.mk_reduce.specs.Works.{TheWork}
@@ -13,7 +13,7 @@ use Rattle.mk_ledger.specs.declared.halt.Halt.{Halt as Kept}
 use Rattle.mk_ledger.specs.Claims.{AnswersClaim}
 use Rattle.mk_ledger.specs.Halts.{halt_as}
 use Rattle.mk_ledger.specs.Ledgers.{LedgerView}
-use Rattle.mk_ledger.specs.Settlings.{AreBothSettled, IsFirstUnsettled, with_placed}
+use Rattle.mk_ledger.specs.Settlings.{IsFirstUnsettled, with_placed}
 use Rattle.mk_core.specs.Seats.{IsLonger}
 use Rattle.mk_turn.specs.Turns.{beginning, missed, one_more, newcomer}
 use Rattle.mk_core.specs.declared.phase.Job.{Job}
@@ -51,12 +51,12 @@ IsLook before ledger after = IsTurnOf before ledger × (after ≡ record before 
 
 -- ---- claims
 -- an answer after which nothing is left for the worker
-abbrev pub ends : Claim → Bool
-ends (claim.Claimed i j) = false
-ends (claim.NotYet other i j) = false
-ends claim.Ended = true
-ends (claim.OverBudget made) = true
-ends (claim.Stopped other) = true
+abbrev pub leaves_nothing : Claim → Bool
+leaves_nothing (claim.Claimed i j) = false
+leaves_nothing (claim.NotYet other i j) = false
+leaves_nothing claim.Ended = true
+leaves_nothing (claim.OverBudget made) = true
+leaves_nothing (claim.Stopped other) = true
 
 -- the places of the pair that was claimed
 abbrev pub claimed_places : Claim → Option (ℕ × ℕ)
@@ -71,7 +71,7 @@ NamesAnother seat answer = Unit {0}
 -- the seat after the answer
 abbrev pub seat_claimed : LedgerView → Claim → SeatView → SeatView
 seat_claimed ledger (claim.Claimed i j) seat = record seat { sight = after_claim ledger (pair_of i j) seat.sight; told_end = false }
-seat_claimed ledger answer seat = record seat { sight = after_look ledger seat.sight; told_end = ends answer }
+seat_claimed ledger answer seat = record seat { sight = after_look ledger seat.sight; told_end = leaves_nothing answer }
 
 -- the seat was told the answer, or the answer is a pair
 abbrev pub KeepsAnswer : SeatView → Claim → Type 0
@@ -128,12 +128,12 @@ pub record IsSettledTurn (before : SeatView) (way : Way) (after : SeatView) : Ty
   pub changed : after ≡ record before { sight = after_settle ledger pair way before.sight }
 
 -- there was no memory, and the ledger is as before
-abbrev pub IsRefused : SeatView → SeatView → Type 0
-IsRefused before after = (ledger : LedgerView) × IsLook before ledger after
+abbrev pub FindsNoMemory : SeatView → SeatView → Type 0
+FindsNoMemory before after = (ledger : LedgerView) × IsLook before ledger after
 
 abbrev pub AnswersTryCoprime : SeatView → Result Unit RefreshFault → SeatView → Type 0
 AnswersTryCoprime before (Ok done) after = IsSettledTurn before Coprime after
-AnswersTryCoprime before (Err refresh.Memory) after = IsRefused before after
+AnswersTryCoprime before (Err refresh.Memory) after = FindsNoMemory before after
 AnswersTryCoprime before (Err refresh.Busy) after = IsBusy before after
 
 -- a pair of the claim and the third move isn't settled in the ledger that the seat took
@@ -146,7 +146,7 @@ pub record IsUnsettledTurn (before : SeatView) (third : ℕ) (unsettled : Pair) 
 
 abbrev pub AnswersTryChain : SeatView → ℕ → Result Unit TryChainFault → SeatView → Type 0
 AnswersTryChain before third (Ok done) after = IsSettledTurn before (Chain third) after
-AnswersTryChain before third (Err chain.Memory) after = IsRefused before after
+AnswersTryChain before third (Err chain.Memory) after = FindsNoMemory before after
 AnswersTryChain before third (Err chain.Busy) after = IsBusy before after
 AnswersTryChain before third (Err (chain.Unsettled i j)) after = IsUnsettledTurn before third (pair_of i j) after
 
@@ -187,7 +187,7 @@ pub record IsFullTurn (before : SeatView) (work : TheWork) (after : SeatView) : 
 abbrev pub AnswersTrySettle : SeatView → TheWork → Result SettledBy SettleFault → SeatView → Type 0
 AnswersTrySettle before work (Ok by.Zero) after = (work.remainder ≡ None) × IsSettledTurn before Zero after
 AnswersTrySettle before work (Ok (by.Placed place)) after = IsPlacedTurn before work place after
-AnswersTrySettle before work (Err place.Memory) after = IsRefused before after
+AnswersTrySettle before work (Err place.Memory) after = FindsNoMemory before after
 AnswersTrySettle before work (Err place.Busy) after = IsBusy before after
 AnswersTrySettle before work (Err (place.Behind count)) after = IsBehindTurn before work count after
 AnswersTrySettle before work (Err place.BasisFull) after = IsFullTurn before work after

@@ -2,7 +2,7 @@
 ghost use Rattle.std.specs.Prelude.{◌≡◌, Some, None};
 ghost use Rattle.mk_model.specs.CoreStates.{Pair};
 ghost use Rattle.mk_turn.specs.Seats.{failed_word};
-ghost use Rattle.mk_shared.specs.SharedAnswers.{ends, claimed_places, AnswersTryClaim, AnswersTryStop};
+ghost use Rattle.mk_shared.specs.SharedAnswers.{leaves_nothing, claimed_places, AnswersTryClaim, AnswersTryStop};
 ghost use Rattle.mk_shared.specs.SharedSeats.{IsStop};
 ghost use Rattle.mk_ledger.specs.Halts.{halt_as};
 
@@ -70,7 +70,7 @@ fn places_of(answer: Claim) -> Option<(u32, u32)>
 
 /// Whether nothing is left for a worker that is told so.
 fn says_end(answer: Claim) -> bool
-    ensures { result ≡ ends answer }
+    ensures { result ≡ leaves_nothing answer }
 {
     match answer {
         Claim::Claimed { .. } => false,

@@ -5,6 +5,7 @@ ghost use Rattle.mk_move.specs.MoveLists.{vectors_of};
 ghost use Rattle.mk_core.specs.declared.phase.Stopped.TheVariants.{Memory};
 ghost use Rattle.mk_turn.specs.Turns.{joining, AllJoined, Closes};
 ghost use Rattle.mk_ledger.specs.Ledgers.{IsLedger};
+ghost use Rattle.mk_shared.specs.GivenUp.{HaveGivenUp};
 ghost use Rattle.mk_shared.specs.LedgerTurns.{ledger_meaning, outset_of, StaysTrue};
 ghost use Rattle.mk_turn.specs.Seats.{turn_view, failed_word, IsSameTable};
 ghost use Rattle.mk_shared.specs.SharedSeats.{WasTold, TakesLedger, MissesTurn};
@@ -124,6 +125,7 @@ impl SharedCompletion {
         ensures kept { IsLedger result }
         ensures outset { Some (outset_of result) ≡ seat.sight.fixed }
         ensures told { (answer : Claim) → WasTold seat.sight answer → StaysTrue answer result.state }
+        ensures given_up { HaveGivenUp result.state }
         ensures unclaimed { (worker : ℕ) → claim_of result.state worker ≡ None }
     {
         let ledger = Box::into_inner(self.table.close(seat.turn).ledger);

@@ -16,7 +16,8 @@ use mk_move::{Basis, Move};
 use mk_turn::TurnState;
 use std::marker::Model;
 
-/// A ledger on the heap, so that whoever takes the turn moves a pointer. It is seen as the ledger.
+/// A ledger on the heap, so that whoever takes the turn moves a pointer. It is seen as the ledger. A halt in it gave up a
+/// claim, unless it is one for want of memory.
 #[derive(Drop)]
 pub struct SharedLedger {
     pub(crate) ledger: Box<Ledger>,
@@ -24,10 +25,13 @@ pub struct SharedLedger {
 
 impl Model for SharedLedger {
     ghost use Rattle.mk_ledger.specs.Ledgers.{LedgerView};
+    ghost use Rattle.mk_shared.specs.GivenUp.{HaveGivenUp};
 
     ghost Value = { LedgerView };
 
     ghost view = { λ s. s.ledger.value };
+
+    ghost invariant = { λ s. HaveGivenUp s.ledger.value.state };
 }
 
 /// The claim of a worker as a seat knows it. No value of it is made.

@@ -4,6 +4,7 @@ use Rattle.mk_turn.specs.Seats.{turn_view}
 use Rattle.mk_turn.specs.Turns.{AllJoined}
 use Rattle.mk_ledger.specs.Ledgers.{LedgerView}
 use Rattle.mk_shared.specs.SharedSeats.{SeatView}
+use Rattle.mk_shared.specs.GivenUp.{HaveGivenUp}
 use Rattle.mk_shared.proofs.FirstAndLast.{none_claimed}
 use Rattle.mk_shared.proofs.completion.SharedCompletion.close.Goals as goal
 
@@ -20,3 +21,6 @@ returns-clause-unclaimed c =
     subst (λ (x : LedgerView). (worker : ℕ) → claim_of x.state worker ≡ None) (sym same)
     (none_claimed c.close.result v c.close.ensures (ap (λ (b : SeatView). b.sight.number) e ∙ c.requires.first) (ap (λ (b : SeatView). b.sight.claim) e ∙ c.requires.idle)
     (subst (λ (b : SeatView). AllJoined b.sight) (sym e) c.requires.joined))
+
+pub returns-clause-given_up : goal.returns-clause-given_up
+returns-clause-given_up c = subst (λ (x : LedgerView). HaveGivenUp x.state) (sym c.into_inner-ledger.ensures) c.into_inner.invariant

@@ -1,4 +1,4 @@
-use Rattle.std.proofs.Common.{◌≡◌, None, sym, subst, ◌∙◌, ap, refl}
+use Rattle.std.proofs.Common.{subst, ◌∙◌, ap, refl}
 use Rattle.mk_turn.specs.Seats.{turn_view}
 use Rattle.mk_shared.specs.SeatFields.{seat_of}
 use Rattle.mk_shared.specs.SharedSeats.{SeatView}

@@ -1,4 +1,4 @@
-use Rattle.std.proofs.Common.{◌≡◌, ◌≤◌, None, Some, true, Err, sym, subst, ◌∙◌, ap, refl, length, arith}
+use Rattle.std.proofs.Common.{◌≤◌, None, true, Err, sym, subst, ◌∙◌, ap, refl, length, arith}
 use Rattle.std.proofs.lemmas.Option.{none-some}
 use Rattle.mk_move.specs.MoveLists.{BasisView}
 use Rattle.mk_turn.specs.Seats.{turn_view}

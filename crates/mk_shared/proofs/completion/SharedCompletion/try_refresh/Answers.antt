@@ -1,4 +1,4 @@
-use Rattle.std.proofs.Common.{◌≡◌, sym, subst, ◌∙◌, ap, refl, length, ℕ, Result}
+use Rattle.std.proofs.Common.{sym, subst, ◌∙◌, ap, refl, length, ℕ, Result}
 use Rattle.mk_move.specs.MoveLists.{BasisView}
 use Rattle.mk_shared.specs.declared.answers.RefreshFault.{RefreshFault}
 use Rattle.mk_turn.specs.Seats.{turn_view}

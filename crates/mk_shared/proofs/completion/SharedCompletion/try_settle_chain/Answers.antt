@@ -1,4 +1,4 @@
-use Rattle.std.proofs.Common.{◌≡◌, None, Some, Result, Err, sym, subst, ◌∙◌, ap, refl}
+use Rattle.std.proofs.Common.{◌≡◌, None, Result, Err, sym, subst, ◌∙◌, ap, refl}
 use Rattle.mk_model.specs.CoreStates.{CoreState, pair_of}
 use Rattle.mk_model.specs.CoreStates.Way.{Chain}
 use Rattle.mk_ledger.specs.Settlings.{IsChainClaim}
@@ -8,9 +8,9 @@ use Rattle.mk_turn.specs.Seats.{turn_view}
 use Rattle.mk_shared.specs.LedgerSteps.{ChainsInTurn}
 use Rattle.mk_shared.specs.SeatFields.{seat_of}
 use Rattle.mk_shared.specs.SharedSeats.{SeatView, HasThirdMove}
-use Rattle.mk_shared.specs.SharedAnswers.{IsSettledTurn, IsUnsettledTurn, IsRefused}
+use Rattle.mk_shared.specs.SharedAnswers.{IsSettledTurn, IsUnsettledTurn}
 use Rattle.mk_shared.proofs.Copies.{turn_of, chain_here}
-use Rattle.mk_shared.proofs.SeatTurns.{Turned, settled_turn, looked, is_look, unsettled_turn}
+use Rattle.mk_shared.proofs.SeatTurns.{Turned, settled_turn, looked, unsettled_turn}
 use Rattle.mk_shared.proofs.completion.SharedCompletion.try_settle_chain.Goals as goal
 
 pub settle_chain-settled-requires : goal.settle_chain-settled-requires

@@ -1,10 +1,10 @@
-use Rattle.std.proofs.Common.{◌≡◌, None, Some, sym, subst, ◌∙◌, ap, refl}
+use Rattle.std.proofs.Common.{None, sym, subst, ◌∙◌, ap, refl}
 use Rattle.mk_model.specs.CoreStates.{CoreState}
 use Rattle.mk_model.specs.CoreStates.Way.{Coprime}
 use Rattle.mk_ledger.specs.Settlings.{IsCoprimeClaim}
 use Rattle.mk_turn.specs.Seats.{turn_view}
 use Rattle.mk_shared.specs.SeatFields.{seat_of}
-use Rattle.mk_shared.specs.SharedSeats.{SeatView, HasCoprimeClaim, IsTurnOf, after_settle, after_look}
+use Rattle.mk_shared.specs.SharedSeats.{SeatView, HasCoprimeClaim}
 use Rattle.mk_shared.specs.SharedAnswers.{IsSettledTurn}
 use Rattle.mk_shared.proofs.Copies.{turn_of, coprime_here}
 use Rattle.mk_shared.proofs.SeatTurns.{Turned, settled_turn, looked}

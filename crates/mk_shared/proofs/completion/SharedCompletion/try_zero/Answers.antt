@@ -1,4 +1,4 @@
-use Rattle.std.proofs.Common.{◌≡◌, None, Some, sym, subst, ◌∙◌, ap, refl, length}
+use Rattle.std.proofs.Common.{None, sym, subst, ◌∙◌, ap, refl, length}
 use Rattle.mk_model.specs.CoreStates.{CoreState}
 use Rattle.mk_model.specs.CoreStates.Way.{Zero}
 use Rattle.mk_ledger.specs.Settlings.{IsZeroClaim}

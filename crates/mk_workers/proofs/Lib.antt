@@ -1,0 +1,4 @@
+pub mod Stays
+pub mod Steps
+pub mod Gatherings
+pub mod Closings

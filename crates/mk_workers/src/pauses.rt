@@ -1,0 +1,42 @@
+//! The pauses of a worker between two tries.
+
+use crossbeam_utils::Backoff;
+
+/// So many rounds at most are in one pause, about a thousand spins.
+const MOST_ROUNDS: u32 = 16;
+
+/// The pauses of a worker that waits for others: each is twice as long as the one before, up to a bound, past which it gives the
+/// processor away too. They begin longer where the last pair took no reduction, since then turns are most of its work.
+#[derive(Drop)]
+pub(crate) struct Pauses {
+    backoff: Backoff,
+    rounds: u32,
+}
+
+impl Pauses {
+    /// Pauses that begin short.
+    pub(crate) fn new() -> Pauses {
+        Pauses {
+            backoff: Backoff::new(),
+            rounds: 1,
+        }
+    }
+
+    /// Pauses, and makes the next pause longer.
+    pub(crate) fn pause(&mut self) {
+        for _ in 0..self.rounds {
+            self.backoff.spin();
+        }
+        if self.rounds < MOST_ROUNDS {
+            self.rounds *= 2;
+        } else {
+            self.backoff.snooze();
+        }
+    }
+
+    /// Begins anew, after a pair that was reduced or wasn't.
+    pub(crate) fn restart(&mut self, reduced: bool) {
+        self.backoff.reset();
+        self.rounds = if reduced { 1 } else { 4 };
+    }
+}

@@ -36,7 +36,7 @@ for name in $models; do
     lattice "$name" >P.lat
     parts >parts || { echo "$name: status $? of the parts" >&2; failed=1; continue; }
     begin=${EPOCHREALTIME/./}
-    "$markov" P
+    "$markov" --workers 1 P
     status=$?
     time=$((${EPOCHREALTIME/./} - begin))
     [ $status -eq 0 ] || { echo "$name: status $status of markov" >&2; failed=1; }

@@ -36,10 +36,10 @@ for name in $models; do
     lattice "$name" >P.lat
     rm -f times
     for round in 1 2 3 4 5; do
-        ours=$(timed "$markov") && same=$(timed 4ti2-markov -q -g saturation -p 64) && default=$(timed 4ti2-markov -q) || exit 1
+        ours=$(timed "$markov" --workers 1) && same=$(timed 4ti2-markov -q -g saturation -p 64) && default=$(timed 4ti2-markov -q) || exit 1
         echo "$ours $same $default" >>times
     done
-    awk -v name="$name" -v peaks="$(memory "$markov") $(memory 4ti2-markov -q -g saturation -p 64) $(memory 4ti2-markov -q)" '
+    awk -v name="$name" -v peaks="$(memory "$markov" --workers 1) $(memory 4ti2-markov -q -g saturation -p 64) $(memory 4ti2-markov -q)" '
         NR == 1 { for (k = 1; k <= 3; k++) best[k] = $k }
         { for (k = 1; k <= 3; k++) if ($k < best[k]) best[k] = $k }
         END {

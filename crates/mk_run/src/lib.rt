@@ -15,8 +15,8 @@ pub use mk_files::{Place, TableFault};
 pub use mk_grading::GradeFault;
 pub use mk_project::{InputFault, InputFile};
 pub use mk_solve::{
-    BookStop, Journal, JournalEntry, Kind, OverflowPlace, OverflowStop, Phase, RunBook, RunStop,
-    solve_alone,
+    BookStop, Gate, Journal, JournalEntry, Kind, OpenGate, OverflowPlace, OverflowStop, Phase,
+    RunBook, RunStop, solve_alone, solve_shared,
 };
-pub use run::run_alone;
+pub use run::{markov_top, run_alone};
 pub use status::Status;

@@ -1,7 +1,9 @@
 //! A run, from the words to the exit status.
 
-ghost use Rattle.std.specs.Prelude.{◌≡◌, ◌⊎◌, ◌≤◌, map, false, string_bytes};
-ghost use Rattle.mk_desk.specs.Folders.{HasCause, OnlyFaultsRose, Rose, WhereTold};
+ghost use Rattle.std.specs.Prelude.{◌≡◌, ◌↔◌, ◌⊎◌, ◌≤◌, length, map, false, string_bytes, IfSome};
+ghost use Rattle.mk_core.specs.JobPhases.{CompletesJob, IsUsedUp};
+ghost use Rattle.mk_core.specs.Phases.{phase_in, AnswersOverBudget};
+ghost use Rattle.mk_desk.specs.Folders.{CountsNoFault, HasCause, OnlyFaultsRose, Rose, WhereTold};
 ghost use Rattle.mk_solve.specs.Books.{empty_book, settled_of};
 ghost use Rattle.mk_words.specs.Requests.{AreWrong, IsRequest};
 ghost use Rattle.mk_words.specs.declared.request.Request.{Request};
@@ -14,10 +16,14 @@ use crate::lines::{MEMORY, USAGE};
 use crate::problem::problem_of;
 use crate::refusal::{keep_fault, refusal};
 use crate::status::Status;
+use mk_core::{Completed, Job, Stopped};
 use mk_desk::{Channel, DeskFault, Folder, say_all};
-use mk_solve::{Crew, OneWorker, RunBook, solve};
+use mk_solve::{Crew, Gate, OneWorker, RunBook, Workers, solve};
 use mk_words::{Request, UsageFault, read_words};
+use mk_workers::complete_shared;
 use std::alloc::Global;
+use std::sync::Wait;
+use std::thread::Threads;
 
 /// Finds the essential moves of a lattice, which are a minimal Markov basis of it, by one worker.
 ///
@@ -71,9 +77,119 @@ pub fn run_alone<F: Folder>(
     ensures decided { (request : Request) → IsRequest (map string_bytes words.now) request →
         WhereTold (F.told folder.old) (F.told folder.new)
         (IsDecided request book.new (Rose (F.state folder.old).faults (F.state folder.new).faults) result) }
+
+    // Over a folder that counts no fault, none is answered.
+    ensures sure { CountsNoFault F.state → result ≡ Status.Folder → ⊥ }
+{
+    run_words(alloc, OneWorker, words, folder, book)
+}
+
+/// Finds the essential moves of a lattice, as `run_alone` does, by as many workers as the words ask for, 4 where they don't say, each in
+/// a thread of its own where one can be made. It may wait. The gate is passed before a worker reduces a pair.
+pub fn markov_top<F: Folder, G: Gate + Sync, R: Threads + Wait + Sync>(
+    rt: &R,
+    alloc: Global,
+    words: &[String],
+    folder: &mut F,
+    gate: &G,
+    book: &mut RunBook,
+) -> Status
+    requires book { book.old ≡ empty_book }
+    requires making { (F.state folder.old).making ≡ false }
+
+    // The headline: from what is asked for to the bytes of the answer. And the book shows how it was found.
+    ensures answered { result ≡ Status.Done → (request : Request) → IsRequest (map string_bytes words.now) request →
+        WhereTold (F.told folder.old) (F.told folder.new) (GivesMarkovBasis request.task request.upto) }
+    ensures booked { result ≡ Status.Done → (request : Request) → IsRequest (map string_bytes words.now) request →
+        WhereTold (F.told folder.old) (F.told folder.new) (λ before after. BooksProblem request.task before.files book.new) }
+
+    // Usage where the words are not in the language, unless memory ran out; and no other words do. The words are read as a request, or
+    // nothing is touched.
+    ensures usage { AreWrong (map string_bytes words.now) → (result ≡ Status.Usage) ⊎ (result ≡ Status.Memory) }
+    ensures named { result ≡ Status.Usage → AreWrong (map string_bytes words.now) }
+    ensures unread { ((request : Request) × IsRequest (map string_bytes words.now) request)
+        ⊎ IsUnread book.new (F.state folder.old) (F.state folder.new) result }
+
+    // Each status has its cause. The book has a fault exactly where the input was refused, and a stop exactly where the
+    // run stopped, unless memory ran out. It has no more pairs than asked for, and where it has so many and a pair is left
+    // the status says so.
+    ensures cause { (request : Request) → IsRequest (map string_bytes words.now) request →
+        HasCauseOf request book.new (F.state folder.old) (F.state folder.new) result }
+    ensures settled { (request : Request) → IsRequest (map string_bytes words.now) request →
+        settled_of book.new.phases ≤ request.budget }
+    ensures budget { (request : Request) → IsRequest (map string_bytes words.now) request →
+        EndsByBudget request.budget book.new result }
+    ensures shown { (request : Request) → IsRequest (map string_bytes words.now) request →
+        IsShownFor request.task book.new.input (F.state folder.old) (F.state folder.new) result }
+
+    // What each ending but the answer says and leaves, and what is decided by what is asked for, where the folder tells.
+    ensures told { (request : Request) → IsRequest (map string_bytes words.now) request →
+        WhereTold (F.told folder.old) (F.told folder.new)
+        (Ends request book.new (Rose (F.state folder.old).faults (F.state folder.new).faults) result) }
+    ensures told_unasked { AreWrong (map string_bytes words.now) →
+        WhereTold (F.told folder.old) (F.told folder.new)
+        (EndsUnasked (Rose (F.state folder.old).faults (F.state folder.new).faults) result) }
+    ensures decided { (request : Request) → IsRequest (map string_bytes words.now) request →
+        WhereTold (F.told folder.old) (F.told folder.new)
+        (IsDecided request book.new (Rose (F.state folder.old).faults (F.state folder.new).faults) result) }
+
+    // Over a folder that counts no fault, none is answered.
+    ensures sure { CountsNoFault F.state → result ≡ Status.Folder → ⊥ }
+{
+    let complete = |job: Job, workers: u32| -> Result<Completed, Stopped>
+        requires start { length job.start.moves ≤ job.basis_limit }
+        requires limit { job.basis_limit ≤ 65536 }
+        requires some { 1 ≤ workers }
+        requires few { workers ≤ 64 }
+        ensures answer { CompletesJob job result }
+        ensures over_budget { IfSome (phase_in result) (λ phase. AnswersOverBudget result ↔ IsUsedUp job phase) }
+    { complete_shared(rt, alloc, job, workers, gate) };
+    run_words(alloc, Workers::new(rt, complete), words, folder, book)
+}
+
+/// A run on the words, by a crew.
+fn run_words<C: Crew + Drop, F: Folder>(
+    alloc: Global,
+    crew: C,
+    words: &[String],
+    folder: &mut F,
+    book: &mut RunBook,
+) -> Status
+    requires ready { C.ready crew }
+    requires book { book.old ≡ empty_book }
+    requires making { (F.state folder.old).making ≡ false }
+    ensures answered { result ≡ Status.Done → (request : Request) → IsRequest (map string_bytes words.now) request →
+        WhereTold (F.told folder.old) (F.told folder.new) (GivesMarkovBasis request.task request.upto) }
+    ensures booked { result ≡ Status.Done → (request : Request) → IsRequest (map string_bytes words.now) request →
+        WhereTold (F.told folder.old) (F.told folder.new) (λ before after. BooksProblem request.task before.files book.new) }
+    ensures usage { AreWrong (map string_bytes words.now) → (result ≡ Status.Usage) ⊎ (result ≡ Status.Memory) }
+    ensures named { result ≡ Status.Usage → AreWrong (map string_bytes words.now) }
+    ensures unread { ((request : Request) × IsRequest (map string_bytes words.now) request)
+        ⊎ IsUnread book.new (F.state folder.old) (F.state folder.new) result }
+    ensures cause { (request : Request) → IsRequest (map string_bytes words.now) request →
+        HasCauseOf request book.new (F.state folder.old) (F.state folder.new) result }
+    ensures settled { (request : Request) → IsRequest (map string_bytes words.now) request →
+        settled_of book.new.phases ≤ request.budget }
+    ensures budget { (request : Request) → IsRequest (map string_bytes words.now) request →
+        EndsByBudget request.budget book.new result }
+    ensures shown { (request : Request) → IsRequest (map string_bytes words.now) request →
+        IsShownFor request.task book.new.input (F.state folder.old) (F.state folder.new) result }
+    ensures told { (request : Request) → IsRequest (map string_bytes words.now) request →
+        WhereTold (F.told folder.old) (F.told folder.new)
+        (Ends request book.new (Rose (F.state folder.old).faults (F.state folder.new).faults) result) }
+    ensures told_unasked { AreWrong (map string_bytes words.now) →
+        WhereTold (F.told folder.old) (F.told folder.new)
+        (EndsUnasked (Rose (F.state folder.old).faults (F.state folder.new).faults) result) }
+    ensures decided { (request : Request) → IsRequest (map string_bytes words.now) request →
+        WhereTold (F.told folder.old) (F.told folder.new)
+        (IsDecided request book.new (Rose (F.state folder.old).faults (F.state folder.new).faults) result) }
+    ensures sure { CountsNoFault F.state → result ≡ Status.Folder → ⊥ }
 {
     match read_words(alloc, words) {
-        Ok(request) => run(alloc, &mut OneWorker, &request, folder, book),
+        Ok(request) => {
+            let crew = crew.with_workers(request.workers);
+            run(alloc, &crew, &request, folder, book)
+        }
         Err(UsageFault::Words) => say(folder, Status::Usage, USAGE),
         Err(UsageFault::Memory) => say(folder, Status::Memory, MEMORY),
     }
@@ -82,11 +198,12 @@ pub fn run_alone<F: Folder>(
 /// A run on a request, by a crew.
 fn run<C: Crew, F: Folder>(
     alloc: Global,
-    crew: &mut C,
+    crew: &C,
     request: &Request,
     folder: &mut F,
     book: &mut RunBook,
 ) -> Status
+    requires ready { C.ready crew.now }
     requires book { book.old ≡ empty_book }
     requires making { (F.state folder.old).making ≡ false }
     ensures cause { HasCauseOf request.now book.new (F.state folder.old) (F.state folder.new) result }
@@ -109,11 +226,12 @@ fn run<C: Crew, F: Folder>(
 /// The whole of a run on a request, but for keeping a fault of its input and saying why it is refused.
 fn answer<C: Crew, F: Folder>(
     alloc: Global,
-    crew: &mut C,
+    crew: &C,
     request: &Request,
     folder: &mut F,
     book: &mut RunBook,
 ) -> Result<(), RunFault>
+    requires ready { C.ready crew.now }
     requires book { book.old ≡ empty_book }
     requires making { (F.state folder.old).making ≡ false }
     ensures book { HasBook request.now book.new (F.state folder.new) result }

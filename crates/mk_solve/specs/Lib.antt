@@ -1,3 +1,4 @@
 pub mod Books
 pub mod Solutions
 pub mod Steps
+pub mod Crews

@@ -128,6 +128,11 @@ impl RunBook {
         &self.phases[n as usize]
     }
 
+    /// The last phase.
+    pub(crate) fn last_phase(&self) -> Option<&Phase> {
+        self.phases.last()
+    }
+
     /// How many pairs the phases settled together.
     pub fn settled(&self) -> u64
         ensures { result ≡ settled_of self.now.phases }

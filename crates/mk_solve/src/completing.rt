@@ -11,17 +11,18 @@ use std::alloc::Global;
 /// Completes the phase of a job. Where it stops the book keeps the phase and its stop; else the book is as before.
 pub(crate) fn complete<C: Crew>(
     alloc: Global,
-    crew: &mut C,
+    crew: &C,
     job: Job,
     book: &mut RunBook,
 ) -> Result<Completed, RunStop>
+    requires ready { C.ready crew.now }
     requires start { length job.start.moves ≤ job.basis_limit }
     requires limit { job.basis_limit ≤ 65536 }
     requires room { length book.old.phases + 1 < 2 ^ 32 }
     requires sum { settled_of book.old.phases + job.budget < 2 ^ 64 }
     ensures { Completes job book.old result book.new }
 {
-    match crew.complete(alloc, job) {
+    match crew.complete(alloc, job, book.last_phase()) {
         Ok(completed) => Ok(completed),
         Err(Stopped::Memory) => Err(RunStop::Memory),
         Err(Stopped::Overflow { phase, stop }) => {

@@ -6,6 +6,7 @@ mod book;
 mod completing;
 mod crew;
 mod solving;
+mod workers;
 
 pub use book::{BookStop, OverflowPlace, RunBook};
 pub use crew::{Crew, OneWorker};
@@ -13,4 +14,6 @@ pub use mk_core::{Journal, JournalEntry, Kind, Phase};
 pub use mk_ledger::OverflowStop;
 pub use mk_minimise::MinimalList;
 pub use mk_project::{InputFault, InputFile};
-pub use solving::{RunStop, solve, solve_alone};
+pub use mk_workers::{Gate, OpenGate};
+pub use solving::{RunStop, solve, solve_alone, solve_shared};
+pub use workers::Workers;

@@ -1,7 +1,9 @@
-ghost use Rattle.std.specs.Prelude.{◌≡◌, ◌+◌, ◌<◌, ◌^◌, Some, All, length, pos};
+ghost use Rattle.std.specs.Prelude.{◌≡◌, ◌↔◌, ◌+◌, ◌<◌, ◌≤◌, ◌^◌, Some, All, IfSome, length, pos};
 ghost use Rattle.mk_model.specs.Orders.{standard};
 ghost use Rattle.mk_model.specs.Tables.{rows_of, lattice_of_table};
 ghost use Rattle.mk_model.specs.Vectors.{weight};
+ghost use Rattle.mk_core.specs.JobPhases.{CompletesJob, IsUsedUp};
+ghost use Rattle.mk_core.specs.Phases.{phase_in, AnswersOverBudget};
 ghost use Rattle.mk_saturate.specs.Saturations.{NoneLeft, IsJob, IsNextJob};
 ghost use Rattle.mk_solve.specs.Books.{empty_book, settled_of};
 ghost use Rattle.mk_solve.specs.Solutions.{Solves, StopsByBudget};
@@ -10,7 +12,8 @@ ghost use Rattle.mk_solve.specs.Steps.{TakesColumn, TakesLast, Reduces, Minimise
 use crate::book::{BookStop, OverflowPlace, RunBook};
 use crate::completing::complete;
 use crate::crew::{Crew, OneWorker};
-use mk_core::{Job, SaturatedBasis};
+use crate::workers::Workers;
+use mk_core::{Completed, Job, SaturatedBasis, Stopped};
 use mk_files::Table;
 use mk_inter::{ReducedBasis, TailFault};
 use mk_ledger::OverflowStop;
@@ -18,7 +21,10 @@ use mk_minimise::{MinimalList, MinimiseFault};
 use mk_model::NoMemory;
 use mk_move::Grading;
 use mk_saturate::Saturation;
+use mk_workers::{Gate, complete_shared};
 use std::alloc::Global;
+use std::sync::Wait;
+use std::thread::Threads;
 
 /// Why a lattice isn't solved: want of memory, or the stop that the book keeps.
 #[derive(Clone, Copy, Debug, PartialEq, Eq)]
@@ -57,20 +63,54 @@ pub fn solve_alone(
     ensures solved { Solves (lattice_of_table lat.now grading.now) budget upto result book.new }
     ensures budget { StopsByBudget budget result book.new }
 {
-    solve(alloc, &mut OneWorker, lat, grading, budget, upto, book)
+    solve(alloc, &OneWorker, lat, grading, budget, upto, book)
+}
+
+/// The essential moves of a table's lattice, as `solve_alone` has them, by 1 to 64 workers, each in a thread of its own where one can be
+/// made. It may wait. The gate is passed before a worker reduces a pair. (Sturmfels, chapters 1, 5 and 12)
+pub fn solve_shared<G: Gate + Sync, R: Threads + Wait + Sync>(
+    rt: &R,
+    alloc: Global,
+    lat: &Table,
+    grading: &Grading,
+    budget: u64,
+    upto: Option<u64>,
+    workers: u32,
+    gate: &G,
+    book: &mut RunBook,
+) -> Result<MinimalList, RunStop>
+    requires book { book.old ≡ empty_book }
+    requires columns { length grading.now ≡ lat.now.columns }
+    requires graded { All (λ row. weight grading.now row ≡ pos 0) (rows_of lat.now) }
+    requires some { 1 ≤ workers }
+    requires few { workers ≤ 64 }
+    ensures solved { Solves (lattice_of_table lat.now grading.now) budget upto result book.new }
+    ensures budget { StopsByBudget budget result book.new }
+{
+    let complete = |job: Job, workers: u32| -> Result<Completed, Stopped>
+        requires start { length job.start.moves ≤ job.basis_limit }
+        requires limit { job.basis_limit ≤ 65536 }
+        requires some { 1 ≤ workers }
+        requires few { workers ≤ 64 }
+        ensures answer { CompletesJob job result }
+        ensures over_budget { IfSome (phase_in result) (λ phase. AnswersOverBudget result ↔ IsUsedUp job phase) }
+    { complete_shared(rt, alloc, job, workers, gate) };
+    let crew = Workers::new(rt, complete).with_workers(workers);
+    solve(alloc, &crew, lat, grading, budget, upto, book)
 }
 
 /// The essential moves of the lattice of a table's rows, of weights up to a bound, ascending by move order, by a crew, as
 /// `solve_alone` has them by one worker.
 pub fn solve<C: Crew>(
     alloc: Global,
-    crew: &mut C,
+    crew: &C,
     lat: &Table,
     grading: &Grading,
     budget: u64,
     upto: Option<u64>,
     book: &mut RunBook,
 ) -> Result<MinimalList, RunStop>
+    requires ready { C.ready crew.now }
     requires book { book.old ≡ empty_book }
     requires columns { length grading.now ≡ lat.now.columns }
     requires graded { All (λ row. weight grading.now row ≡ pos 0) (rows_of lat.now) }
@@ -91,11 +131,12 @@ pub fn solve<C: Crew>(
 /// Saturates the least unsaturated column by the phase of its job, which the book keeps, the one that stopped too.
 fn saturate_column<C: Crew>(
     alloc: Global,
-    crew: &mut C,
+    crew: &C,
     saturation: &mut Saturation,
     job: Job,
     book: &mut RunBook,
 ) -> Result<(), RunStop>
+    requires ready { C.ready crew.now }
     requires next { IsNextJob saturation.old job.budget (Some job) }
     requires room { length book.old.phases + 1 < 2 ^ 32 }
     requires sum { settled_of book.old.phases + job.budget < 2 ^ 64 }
@@ -110,11 +151,12 @@ fn saturate_column<C: Crew>(
 /// The saturated basis, by the phase of the last job, which the book keeps, the one that stopped too.
 fn finish<C: Crew>(
     alloc: Global,
-    crew: &mut C,
+    crew: &C,
     saturation: &Saturation,
     job: Job,
     book: &mut RunBook,
 ) -> Result<SaturatedBasis, RunStop>
+    requires ready { C.ready crew.now }
     requires none_left { NoneLeft saturation.now.left }
     requires last { IsJob saturation.now.basis (standard (length saturation.now.basis.grading)) job.budget job }
     requires room { length book.old.phases + 1 < 2 ^ 32 }
@@ -130,10 +172,11 @@ fn finish<C: Crew>(
 /// The reduced basis. Where an entry leaves the range the book keeps that stop.
 fn reduce<C: Crew>(
     alloc: Global,
-    crew: &mut C,
+    crew: &C,
     saturated: &SaturatedBasis,
     book: &mut RunBook,
 ) -> Result<ReducedBasis, RunStop>
+    requires ready { C.ready crew.now }
     ensures { Reduces saturated.now book.old result book.new }
 {
     match crew.reduce_tails(alloc, saturated) {
@@ -165,13 +208,14 @@ fn reduce<C: Crew>(
 /// keeps that stop.
 fn choose<C: Crew>(
     alloc: Global,
-    crew: &mut C,
+    crew: &C,
     reduced: ReducedBasis,
     grading: &Grading,
     upto: Option<u64>,
     book: &mut RunBook,
 ) -> Result<MinimalList, RunStop>
-    requires { grading.now ≡ reduced.grading }
+    requires ready { C.ready crew.now }
+    requires grading { grading.now ≡ reduced.grading }
     ensures { Minimises reduced upto book.old result book.new }
 {
     let chosen = crew.minimise(alloc, &reduced, grading, upto);

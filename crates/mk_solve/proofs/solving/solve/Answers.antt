@@ -109,9 +109,9 @@ returns-in_err-reduced g c =
     fault after c.in_err-reduced.ensures) in
     record { solved = s; budget = solves_by_budget _ c.args.budget _ _ after s }
 
-pub choose-requires : goal.choose-requires
-choose-requires g c =
-    let at = goal.at.choose-requires g c in
+pub choose-requires-clause-grading : goal.choose-requires-clause-grading
+choose-requires-clause-grading g c =
+    let at = goal.at.choose-requires-clause-grading g c in
     let reached = reached_all g at.In_ok-saturated (none_left g at.In_default) (last_job g at.In_ok-job-2) in
     sym (c.in_ok-reduced.ensures.0.grading ∙ reached.grading)
 

@@ -10,14 +10,20 @@ use Rattle.mk_run.specs.declared.status.Status.{Status}
 use Rattle.mk_run.specs.declared.status.Status.TheVariants.{Memory}
 use Rattle.mk_run.proofs.Decided.{decided, unread_decided}
 use Rattle.mk_run.proofs.Refusals.{empty_is_few, unread_ends}
-use Rattle.mk_run.proofs.Unread.{done_books, done_gives, memory_ends, unread_shown, usage_ends}
-use Rattle.mk_run.proofs.run.run_alone.Goals as goal
-use Rattle.mk_run.proofs.run.run_alone.Goals.{Joined-request, In-Err-Words}
-use Rattle.mk_run.proofs.run.run_alone.Given.{Over}
+use Rattle.mk_run.proofs.Unread.{done_books, done_gives, memory_ends, no_folder, unread_no_folder, unread_shown, usage_ends, workers_within}
+use Rattle.mk_run.proofs.run.run_words.Goals as goal
+use Rattle.mk_run.proofs.run.run_words.Goals.{Joined-request, In-Err-Words}
+use Rattle.mk_run.proofs.run.run_words.Given.{Over}
 
 -- ---- words that were read as a request, which is the only one
 for_each : (g : Over) (c : Joined-request g) (P : Request → Type 0) → P c.in-Ok.request → (request : Request) → IsRequest (map string_bytes c.args.words.now) request → P request
 for_each g c P h request asked = subst P (sym (c.in-Ok.ensures.only request asked)) h
+
+pub with_workers-crew-requires-clause-some : goal.with_workers-crew-requires-clause-some
+with_workers-crew-requires-clause-some g c = (workers_within (map string_bytes c.args.words.now) c.in-Ok.request c.in-Ok.ensures.ok).0
+
+pub with_workers-crew-requires-clause-few : goal.with_workers-crew-requires-clause-few
+with_workers-crew-requires-clause-few g c = (workers_within (map string_bytes c.args.words.now) c.in-Ok.request c.in-Ok.ensures.ok).1
 
 pub returns-in-Ok-clause-answered : goal.returns-in-Ok-clause-answered
 returns-in-Ok-clause-answered g c = λ done.
@@ -79,6 +85,10 @@ returns-in-Ok-clause-decided g c =
     (where_told_weaker start end (Ends c.in-Ok.request book (Rose before.faults after.faults) status) (IsDecided c.in-Ok.request book (Rose before.faults after.faults) status) c.run.ensures.told
     (decided c.in-Ok.request book before after status c.run.ensures.cause))
 
+pub returns-in-Ok-clause-sure : goal.returns-in-Ok-clause-sure
+returns-in-Ok-clause-sure g c = λ none.
+    no_folder c.in-Ok.request c.run.new.book (g.F.Folder.state c.args.folder.now) (g.F.Folder.state c.run.new.folder) c.run.result (none c.run.new.folder) c.run.ensures.cause
+
 -- ---- words that are not in the language
 wrong : (g : Over) (c : In-Err-Words g) → AreWrong (map string_bytes c.args.words.now)
 wrong g c = c.read_words.ensures.words (c.in-Err-Words.is ∙ ap Err c.in-Err-Words.field-0-is)
@@ -122,43 +132,46 @@ returns-in-Err-Words-clause-told_unasked g c = λ none.
 pub returns-in-Err-Words-clause-decided : goal.returns-in-Err-Words-clause-decided
 returns-in-Err-Words-clause-decided g c = λ request asked. absurd (wrong g (goal.at.returns-in-Err-Words-clause-decided g c).In-Err-Words request asked)
 
+pub returns-in-Err-Words-clause-sure : goal.returns-in-Err-Words-clause-sure
+returns-in-Err-Words-clause-sure g c = λ none. unread_no_folder c.say.result c.say.ensures.status
+
 -- ---- words for which there was no memory
 is_memory : (status : Status) → (status ≡ Memory) ⊎ (status ≡ Memory) → status ≡ Memory
 is_memory status which = elim which [ inl e ↦ e | inr e ↦ e ]
 
-pub returns-in-Err-Memory-clause-answered : goal.returns-in-Err-Memory-clause-answered
-returns-in-Err-Memory-clause-answered g c = λ done. absurd (let memory = is_memory c.say-in-Err-Memory.result c.say-in-Err-Memory.ensures.status in cc)
+pub returns-clause-answered : goal.returns-clause-answered
+returns-clause-answered g c = λ done. absurd (let memory = is_memory c.say-in-Err-Memory.result c.say-in-Err-Memory.ensures.status in cc)
 
-pub returns-in-Err-Memory-clause-booked : goal.returns-in-Err-Memory-clause-booked
-returns-in-Err-Memory-clause-booked g c = λ done. absurd (let memory = is_memory c.say-in-Err-Memory.result c.say-in-Err-Memory.ensures.status in cc)
+pub returns-clause-booked : goal.returns-clause-booked
+returns-clause-booked g c = λ done. absurd (let memory = is_memory c.say-in-Err-Memory.result c.say-in-Err-Memory.ensures.status in cc)
 
-pub returns-in-Err-Memory-clause-usage : goal.returns-in-Err-Memory-clause-usage
-returns-in-Err-Memory-clause-usage g c = λ wrong. inr (is_memory c.say-in-Err-Memory.result c.say-in-Err-Memory.ensures.status)
+pub returns-clause-usage : goal.returns-clause-usage
+returns-clause-usage g c = λ wrong. inr (is_memory c.say-in-Err-Memory.result c.say-in-Err-Memory.ensures.status)
 
-pub returns-in-Err-Memory-clause-named : goal.returns-in-Err-Memory-clause-named
-returns-in-Err-Memory-clause-named g c = λ usage. absurd (let memory = is_memory c.say-in-Err-Memory.result c.say-in-Err-Memory.ensures.status in cc)
+pub returns-clause-named : goal.returns-clause-named
+returns-clause-named g c = λ usage. absurd (let memory = is_memory c.say-in-Err-Memory.result c.say-in-Err-Memory.ensures.status in cc)
 
-pub returns-in-Err-Memory-clause-unread : goal.returns-in-Err-Memory-clause-unread
-returns-in-Err-Memory-clause-unread g c =
+pub returns-clause-unread : goal.returns-clause-unread
+returns-clause-unread g c =
     inr (record { empty = c.requires.book; untouched = c.say-in-Err-Memory.ensures.state; ended = inr (is_memory c.say-in-Err-Memory.result c.say-in-Err-Memory.ensures.status) })
 
-pub returns-in-Err-Memory-clause-cause : goal.returns-in-Err-Memory-clause-cause
-returns-in-Err-Memory-clause-cause g c = λ request asked.
+pub returns-clause-cause : goal.returns-clause-cause
+returns-clause-cause g c = λ request asked.
     subst (HasCauseOf request c.args.book.now (g.F.Folder.state c.args.folder.now) (g.F.Folder.state c.say-in-Err-Memory.new.folder)) (sym (is_memory c.say-in-Err-Memory.result c.say-in-Err-Memory.ensures.status)) (inl c.requires.book)
 
-pub returns-in-Err-Memory-clause-settled : goal.returns-in-Err-Memory-clause-settled
-returns-in-Err-Memory-clause-settled g c = λ request asked. empty_is_few request.budget c.args.book.now c.requires.book
+pub returns-clause-settled : goal.returns-clause-settled
+returns-clause-settled g c = λ request asked. empty_is_few request.budget c.args.book.now c.requires.book
 
-pub returns-in-Err-Memory-clause-budget : goal.returns-in-Err-Memory-clause-budget
-returns-in-Err-Memory-clause-budget g c = λ request asked used other. inr (is_memory c.say-in-Err-Memory.result c.say-in-Err-Memory.ensures.status)
+pub returns-clause-budget : goal.returns-clause-budget
+returns-clause-budget g c = λ request asked used other. inr (is_memory c.say-in-Err-Memory.result c.say-in-Err-Memory.ensures.status)
 
-pub returns-in-Err-Memory-clause-shown : goal.returns-in-Err-Memory-clause-shown
-returns-in-Err-Memory-clause-shown g c = λ request asked.
+pub returns-clause-shown : goal.returns-clause-shown
+returns-clause-shown g c = λ request asked.
     unread_shown request.task c.args.book.now (g.F.Folder.state c.args.folder.now) (g.F.Folder.state c.say-in-Err-Memory.new.folder) c.say-in-Err-Memory.result c.requires.book c.say-in-Err-Memory.ensures.state
     (is_memory c.say-in-Err-Memory.result c.say-in-Err-Memory.ensures.status)
 
-pub returns-in-Err-Memory-clause-told : goal.returns-in-Err-Memory-clause-told
-returns-in-Err-Memory-clause-told g c = λ request asked.
+pub returns-clause-told : goal.returns-clause-told
+returns-clause-told g c = λ request asked.
     let start = g.F.Folder.told c.args.folder.now in
     let end = g.F.Folder.told c.say-in-Err-Memory.new.folder in
     let before = g.F.Folder.state c.args.folder.now in
@@ -169,16 +182,19 @@ returns-in-Err-Memory-clause-told g c = λ request asked.
     (where_told_weaker start end (SaysLine memory_line (rose ⊎ (status ≡ Memory))) (Ends request book rose Memory) c.say-in-Err-Memory.ensures.told
     (unread_ends request book before rose (rose ⊎ (status ≡ Memory)) c.requires.book))
 
-pub returns-in-Err-Memory-clause-told_unasked : goal.returns-in-Err-Memory-clause-told_unasked
-returns-in-Err-Memory-clause-told_unasked g c = λ none.
+pub returns-clause-told_unasked : goal.returns-clause-told_unasked
+returns-clause-told_unasked g c = λ none.
     let rose = Rose (g.F.Folder.state c.args.folder.now).faults (g.F.Folder.state c.say-in-Err-Memory.new.folder).faults in
     let status = c.say-in-Err-Memory.result in
     where_told_weaker _ _ (SaysLine memory_line (rose ⊎ (status ≡ Memory))) (EndsUnasked rose status) c.say-in-Err-Memory.ensures.told
     (memory_ends rose status (is_memory status c.say-in-Err-Memory.ensures.status) (rose ⊎ (status ≡ Memory)))
 
-pub returns-in-Err-Memory-clause-decided : goal.returns-in-Err-Memory-clause-decided
-returns-in-Err-Memory-clause-decided g c = λ request asked.
+pub returns-clause-decided : goal.returns-clause-decided
+returns-clause-decided g c = λ request asked.
     let rose = Rose (g.F.Folder.state c.args.folder.now).faults (g.F.Folder.state c.say-in-Err-Memory.new.folder).faults in
     let status = c.say-in-Err-Memory.result in
     where_told_weaker _ _ (SaysLine memory_line (rose ⊎ (status ≡ Memory))) (IsDecided request c.args.book.now rose status) c.say-in-Err-Memory.ensures.told
     (λ x y said. unread_decided request c.args.book.now rose status (is_memory status c.say-in-Err-Memory.ensures.status) x y)
+
+pub returns-clause-sure : goal.returns-clause-sure
+returns-clause-sure g c = λ none. unread_no_folder c.say-in-Err-Memory.result (inr (is_memory c.say-in-Err-Memory.result c.say-in-Err-Memory.ensures.status))

@@ -76,13 +76,14 @@ impl Worker {
         }
     }
 
-    /// Asks for a pair.
+    /// Asks for a pair. A worker that isn't the first rests before.
     fn claim_next(&mut self, shared: &SharedCompletion) -> Stage
         requires table { self.old.seat.table ≡ shared.now }
         requires leads { AreFirstLeads self.old.finder self.old.seat.copy }
         requires stage { IsAt self.old.seat Idle }
         ensures { Steps self.old.seat self.new.seat self.new.finder result }
     {
+        self.pauses.rest(self.seat.number());
         match shared.try_claim(&mut self.seat) {
             Ok(Claim::Claimed { .. }) => {
                 self.pauses.restart(self.reduced);

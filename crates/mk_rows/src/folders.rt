@@ -1,4 +1,4 @@
-use crate::runs::{INDEPENDENCE, MANY, MARGINS, NINE_MOVES, OLDER, OTHER, assert_run};
+use crate::runs::{INDEPENDENCE, MANY, MARGINS, OLDER, OTHER, assert_run};
 use mk_run::Status;
 use std::alloc::AllocGlobal;
 use std::process::Abort;
@@ -23,27 +23,6 @@ const SHORT: (&str, &str) = ("P.mat", "1 4\n1 2 3\n");
 const UNFIT: (&str, &str) = ("P.mat", "1 4\n1 2 3 5\n");
 
 const WORDED: (&str, &str) = ("P.grade", "1 x\n1 1\n");
-
-// Each call of a run fails in turn, and then the line that says so. The run begins to read, reads nine bytes and the end, looks
-// for a matrix and a grade, begins to write, writes nine bytes in two lines, and ends.
-#[test]
-fn each_call_fails_in_turn(rt: HostRuntime) -> Result<(), Fail> {
-    let files = [SEGMENT, OTHER, OLDER];
-    for (chunk, calls) in [(1, 24), (MANY, 9)] {
-        for failing in 1..=calls {
-            assert_run(
-                &rt,
-                &["P"],
-                &files,
-                chunk,
-                &[failing],
-                (Status::Folder, FAILED),
-                &files,
-            )?;
-        }
-    }
-    Ok(())
-}
 
 // A run for `P` over these files, with this made and so many calls.
 fn assert_calls<'a>(

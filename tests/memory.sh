@@ -2,10 +2,12 @@
 # Runs the built program with one allocation refused a run, for each number of an allocation that the run makes: on the twisted cubic, and on
 # the tables of three rows and three columns with their margins. Each run ends with status 6, with its line and the files as before, or with
 # status 0 and the answer; where the words of the command line find no memory nothing is said. The allocator that refuses is put before
-# the C library's, so a C compiler is needed.
-# Usage: tests/memory.sh PROGRAM
+# the C library's, so a C compiler is needed. The runs are by one worker unless another number is given; which allocation has a number
+# depends then on who is first.
+# Usage: tests/memory.sh PROGRAM [WORKERS]
 
-[ $# -eq 1 ] && [ -f "$1" ] || { echo "usage: $0 PROGRAM" >&2; exit 2; }
+[ $# -ge 1 ] && [ -f "$1" ] || { echo "usage: $0 PROGRAM [WORKERS]" >&2; exit 2; }
+workers=${2:-1}
 command -v cc >/dev/null || { echo 'there is no C compiler: no allocation is refused'; exit 0; }
 examples=$(realpath "$(dirname "$0")/../examples") || exit 2
 work=$(mktemp -d) || exit 2
@@ -17,11 +19,12 @@ printf '7 7\nan older answer\n' >"$work/older"
 printf 'markov: out of memory\n' >"$work/line"
 failed=0
 
-# An allocator that refuses the call whose number REFUSED is, counted from 1, and writes how many calls there were to the file COUNTED.
+# An allocator that refuses the call whose number REFUSED is, counted from 1, and then makes the file TELLING.
 cc -O1 -shared -fPIC -o "$work/refusing.so" -xc - <<'C' || exit 2
 #include <errno.h>
-#include <stdio.h>
+#include <fcntl.h>
 #include <stdlib.h>
+#include <unistd.h>
 
 extern void *__libc_malloc(size_t);
 extern void *__libc_calloc(size_t, size_t);
@@ -30,14 +33,19 @@ extern void *__libc_memalign(size_t, size_t);
 
 static unsigned long calls, refused;
 
+// Counts a call, whichever thread makes it. Where it is the one to refuse a file tells so.
 static int is_refused(void) {
-    if (calls == 0) {
+    unsigned long call = __atomic_add_fetch(&calls, 1, __ATOMIC_SEQ_CST);
+    if (call == 1) {
         const char *word = getenv("REFUSED");
         refused = word ? strtoul(word, NULL, 10) : 0;
     }
-    calls++;
-    if (calls == refused) errno = ENOMEM;
-    return calls == refused;
+    if (call != refused) return 0;
+    const char *name = getenv("TELLING");
+    int file = name ? open(name, O_CREAT | O_WRONLY, 0600) : -1;
+    if (file >= 0) close(file);
+    errno = ENOMEM;
+    return 1;
 }
 
 void *malloc(size_t size) { return is_refused() ? NULL : __libc_malloc(size); }
@@ -50,17 +58,6 @@ int posix_memalign(void **place, size_t align, size_t size) {
     *place = __libc_memalign(align, size);
     return *place ? 0 : ENOMEM;
 }
-
-__attribute__((destructor)) static void tell(void) {
-    const char *name = getenv("COUNTED");
-    unsigned long count = calls;
-    refused = 0;
-    FILE *file = name ? fopen(name, "w") : NULL;
-    if (file) {
-        fprintf(file, "%lu\n", count);
-        fclose(file);
-    }
-}
 C
 
 # Whether a file of the folder has these bytes.
@@ -71,13 +68,13 @@ has() {
 # Runs on an example under an older answer with the allocation of this number refused, and leaves its status in $status.
 run() {
     local name=$1 file
-    rm -rf "$folder" "$work/counted"
+    rm -rf "$folder" "$work/told"
     mkdir "$folder"
     for file in "$examples/$name/$name".*; do cp "$file" "$folder/P.${file##*.}"; done
     cp "$work/older" "$folder/P.mar"
     (
         cd "$folder" || exit 9
-        exec timeout 60 env "REFUSED=$2" "COUNTED=$work/counted" "LD_PRELOAD=$work/refusing.so" "$program" P
+        exec timeout 60 env "REFUSED=$2" "TELLING=$work/told" "LD_PRELOAD=$work/refusing.so" "$program" --workers "$workers" P
     ) >"$work/out" 2>"$work/err" </dev/null
     status=$?
 }
@@ -102,7 +99,7 @@ refuse_each() {
             0)
                 has P.mar "$examples/$name/$name.mar" || wrong "$name" "$number" 'status 0 and another answer'
                 [ ! -s "$work/err" ] || wrong "$name" "$number" 'status 0 and something on standard error'
-                [ "$(cat "$work/counted")" -ge "$number" ] || break
+                [ -e "$work/told" ] || break
                 answered=$((answered + 1))
                 ;;
             6)

@@ -9,7 +9,13 @@
 markov=$(realpath "$1")
 shift
 bench=$(realpath "$(dirname "$0")")
-names=${*:-3x3x3 6x6 8x8 3x3x4 "$bench"/long/*.lat}
+names=()
+for name in ${*:-3x3x3 6x6 8x8 3x3x4 "$bench"/long/*.lat}; do
+    case $name in
+    *.lat) names+=("$(realpath "$name")") ;;
+    *) names+=("$name") ;;
+    esac
+done
 . "$bench/lattice.sh"
 work=$(mktemp -d) || exit 2
 trap 'rm -rf "$work"' EXIT
@@ -24,7 +30,7 @@ timed() {
 }
 
 failed=0
-for name in $names; do
+for name in "${names[@]}"; do
     case $name in
     *.lat) cp "$name" P.lat ;;
     *) lattice "$name" >P.lat ;;

@@ -6,13 +6,13 @@ ghost use Rattle.mk_move.specs.MoveLists.{IsBasis, vectors_of};
 ghost use Rattle.mk_move.specs.Sides.{part_of, DividesAt};
 ghost use Rattle.mk_move.specs.Steps.{IsStepFault};
 ghost use Rattle.mk_reduce.specs.Leads.{leads_of};
-ghost use Rattle.mk_reduce.specs.Works.{WorkOf, IsRest, IsReductionStep, IsLeftAfter, Advances, IsReduced, ContinuesWork};
+ghost use Rattle.mk_reduce.specs.Works.{WorkOf, IsRest, IsReductionStep, IsLeftAfter, Advances, IsReduced, ContinuesWork, AreBothSides};
 ghost use Rattle.mk_reduce.specs.Stops.{IsStepRefused};
 
 use crate::step::Step;
 use crate::stop::Stop;
 use crate::work::Work;
-use mk_move::{Basis, Finder, Move, Side, StepFault, subtract_times, times_dividing};
+use mk_move::{Basis, Finder, Move, Priority, Side, StepFault, subtract_times, times_dividing};
 use std::alloc::Global;
 
 /// Reduces the work on a pair by the basis until nothing is left, or what is left is normal: no lead of the basis divides
@@ -123,7 +123,8 @@ fn step_at(rest: &Move, basis: &Basis, place: u32, side: Side) -> Step
     }
 }
 
-/// A step of reduction of a move, by which move and on which part is free; none exactly where it is normal.
+/// A step of reduction of a move, by which move and on which part is free; none exactly where it is normal. The part that is
+/// likely the greater is tried first: two monomials that have one normal form meet sooner where the greater is reduced.
 pub(crate) fn next_step<F: Finder>(rest: &Move, basis: &Basis, finder: &F) -> Option<Step>
     requires basis { IsBasis basis.now }
     requires leads { F.leads finder.now ≡ leads_of basis.now.moves }
@@ -133,9 +134,39 @@ pub(crate) fn next_step<F: Finder>(rest: &Move, basis: &Basis, finder: &F) -> Op
     ensures none { IfNone result (IsNormal (vectors_of basis.now.moves) rest.now.entries) }
 {
     prove!(rest.columns() == basis.grading().columns());
-    if let Some(place) = finder.find(rest, Side::Plus) {
-        return Some(step_at(rest, basis, place, Side::Plus));
+    let (first, second) = likely_sides(rest, basis.priority());
+    if let Some(place) = finder.find(rest, first) {
+        return Some(step_at(rest, basis, place, first));
     }
-    let place = finder.find(rest, Side::Minus)?;
-    Some(step_at(rest, basis, place, Side::Minus))
+    let place = finder.find(rest, second)?;
+    Some(step_at(rest, basis, place, second))
+}
+
+/// Both sides, that of the part which is likely the greater by the list first: the other has the first column of the list
+/// where an entry is. Behind its first column the list is taken to go from the last column to the first.
+fn likely_sides(rest: &Move, priority: &Priority) -> (Side, Side)
+    ensures { AreBothSides result.0 result.1 }
+{
+    let plus = rest.mask(Side::Plus);
+    let minus = rest.mask(Side::Minus);
+    let first = first_mask(priority);
+    let is_plus_lesser = if (plus | minus) & first != 0 {
+        plus & first != 0
+    } else {
+        plus > minus
+    };
+    if is_plus_lesser {
+        (Side::Minus, Side::Plus)
+    } else {
+        (Side::Plus, Side::Minus)
+    }
+}
+
+/// The mask of the first column of a list of at most 64, and 0 for a longer or an empty one.
+fn first_mask(priority: &Priority) -> u64 {
+    let columns = priority.columns();
+    if columns == 0 || columns > 64 {
+        return 0;
+    }
+    1 << priority.column_at(0)
 }

@@ -1,5 +1,5 @@
-use crate::{JournalEntry, Ledger};
-use mk_move::{Basis, Grading, Priority};
+use crate::shown::start_of;
+use mk_ledger::{JournalEntry, Ledger};
 use std::mem::size_of;
 use std::test::Fail;
 
@@ -10,9 +10,8 @@ fn an_entry_takes_eight_bytes(rt: HostRuntime) {
 
 #[test]
 fn a_ledger_without_moves_begins_and_is_ended(rt: HostRuntime) -> Result<(), Fail> {
-    let grading = Grading::new(rt.alloc(), &[1, 1])?;
-    let list = Priority::standard(rt.alloc(), 2)?;
-    let start = Basis::new(rt.alloc(), list, grading);
+    let start = start_of(&rt, "0 2\n", &[1, 1])?;
+    assert_eq!(rt; start.len(), 0);
     let ledger = Ledger::new(rt.alloc(), start, 10, 100, 2)?;
     assert!(rt; ledger.is_ended());
     Ok(())

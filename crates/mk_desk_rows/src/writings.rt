@@ -1,13 +1,13 @@
-ghost use Rattle.std.specs.Prelude.{◌≡◌, ◌<◌, ◌≤◌, true, length, IfOk, All};
+ghost use Rattle.std.specs.Prelude.{◌≡◌, true, length, IfOk, All};
 ghost use Rattle.mk_desk.specs.MemoryFolders.{memory_state};
 ghost use Rattle.mk_model.specs.Vectors.{IsEntry};
 
-use crate::{WriteFault, write_moves};
+use crate::filled::{MANY, folder_of};
 use mk_desk::{Folder, MemoryFolder};
 use mk_model::{ENTRY_MAX, Entry};
 use mk_move::{Grading, Move, MoveList, Priority};
+use mk_writer::{WriteFault, write_moves};
 use std::alloc::AllocGlobal;
-use std::collections::BTreeMap;
 use std::marker::Model;
 use std::process::Abort;
 use std::test::Fail;
@@ -70,51 +70,26 @@ fn two_moves(rt: &(impl Abort + AllocGlobal)) -> Result<Moves, Fail> {
     Ok(Moves { columns: 3, moves })
 }
 
-// A folder that makes a file, after which its call of this number fails.
-fn making(rt: &impl AllocGlobal, call: u64, chunk: usize) -> Result<MemoryFolder, Fail>
-    requires chunk { 1 ≤ chunk }
+// A folder that makes a file, after which the call of this number fails, counted from 1, where the start is the first.
+fn making(rt: &impl AllocGlobal, chunk: usize, failing: u64) -> Result<MemoryFolder, Fail>
     ensures { IfOk result (λ folder. (memory_state folder).making ≡ true) }
 {
-    let failing = vec![in rt.alloc(); call]?;
-    let mut folder = MemoryFolder::new(rt.alloc(), BTreeMap::new(rt.alloc()), failing, chunk);
+    let mut folder = folder_of(rt.alloc(), &[], chunk, failing)?;
     folder.start_write("new")?;
     Ok(folder)
 }
 
-// The list is written so, by so many calls, where a call moves at most so many bytes.
+// The list is written so, by as many calls with the start, where a call moves at most so many bytes.
 fn assert_written(
     rt: &(impl Abort + AllocGlobal),
     list: &Moves,
     chunk: usize,
     text: &str,
     calls: u64,
-) -> Result<(), Fail>
-    requires chunk { 1 ≤ chunk }
-    requires few { calls < 100 }
-{
-    let mut folder = making(rt, 0, chunk)?;
+) -> Result<(), Fail> {
+    let mut folder = making(rt, chunk, 0)?;
     write_moves(rt.alloc(), &mut folder, list)?;
-    assert_eq!(rt; folder.calls(), 1 + calls);
-    folder.end_write()?;
-    assert_eq!(rt; folder.file("new"), Some(text.as_bytes()));
-    Ok(())
-}
-
-// The two moves are written so far, where that write fails.
-fn assert_stopped(
-    rt: &(impl Abort + AllocGlobal),
-    write: u64,
-    chunk: usize,
-    text: &str,
-) -> Result<(), Fail>
-    requires chunk { 1 ≤ chunk }
-    requires few { write < 100 }
-{
-    let mut folder = making(rt, 1 + write, chunk)?;
-    let answer = write_moves(rt.alloc(), &mut folder, &two_moves(rt)?);
-    assert_eq!(rt; answer, Err(WriteFault::Failed), "write {write} fails");
-    assert_eq!(rt; folder.made(), text.as_bytes());
-    assert_eq!(rt; folder.calls(), 1 + write);
+    assert_eq!(rt; folder.calls(), calls);
     folder.end_write()?;
     assert_eq!(rt; folder.file("new"), Some(text.as_bytes()));
     Ok(())
@@ -123,8 +98,10 @@ fn assert_stopped(
 #[test]
 fn writes_a_line_for_each_move(rt: HostRuntime) -> Result<(), Fail> {
     let list = two_moves(&rt)?;
-    assert_written(&rt, &list, 1_000_000, "2 3\n2 -1 0\n1 1 -1\n", 3)?;
-    assert_written(&rt, &list, 1, "2 3\n2 -1 0\n1 1 -1\n", 18)
+    for (chunk, calls) in [(MANY, 4), (1, 19)] {
+        assert_written(&rt, &list, chunk, "2 3\n2 -1 0\n1 1 -1\n", calls)?;
+    }
+    Ok(())
 }
 
 #[test]
@@ -134,7 +111,7 @@ fn has_room_for_the_longest_entries(rt: HostRuntime) -> Result<(), Fail> {
     let list = Moves { columns: 3, moves };
     let text =
         "1 3\n1208925819614629174706175 1208925819614629174706175 -1208925819614629174706175\n";
-    assert_written(&rt, &list, 1_000_000, text, 2)
+    assert_written(&rt, &list, MANY, text, 3)
 }
 
 #[test]
@@ -143,13 +120,26 @@ fn writes_a_header_alone(rt: HostRuntime) -> Result<(), Fail> {
         columns: 4,
         moves: Vec::new(rt.alloc()),
     };
-    assert_written(&rt, &list, 1_000_000, "0 4\n", 1)
+    assert_written(&rt, &list, MANY, "0 4\n", 2)
 }
 
+// Rows with how many bytes a call moves, the call that fails, and what the two moves leave then. Behind it the file can be ended.
 #[test]
 fn a_refused_line_leaves_those_before_it(rt: HostRuntime) -> Result<(), Fail> {
-    assert_stopped(&rt, 1, 1_000_000, "")?;
-    assert_stopped(&rt, 2, 1_000_000, "2 3\n")?;
-    assert_stopped(&rt, 3, 1_000_000, "2 3\n2 -1 0\n")?;
-    assert_stopped(&rt, 7, 1, "2 3\n2 ")
+    let list = two_moves(&rt)?;
+    for (chunk, failing, text) in [
+        (MANY, 2, ""),
+        (MANY, 3, "2 3\n"),
+        (MANY, 4, "2 3\n2 -1 0\n"),
+        (1, 8, "2 3\n2 "),
+    ] {
+        let mut folder = making(&rt, chunk, failing)?;
+        let answer = write_moves(rt.alloc(), &mut folder, &list);
+        assert_eq!(rt; answer, Err(WriteFault::Failed), "call {failing} fails");
+        assert_eq!(rt; folder.made(), text.as_bytes());
+        assert_eq!(rt; folder.calls(), failing);
+        folder.end_write()?;
+        assert_eq!(rt; folder.file("new"), Some(text.as_bytes()));
+    }
+    Ok(())
 }

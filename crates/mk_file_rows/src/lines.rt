@@ -1,6 +1,6 @@
-use crate::{InputFault, InputFile, input_line};
 use mk_files::{Place, TableFault};
 use mk_grading::GradeFault;
+use mk_project::{InputFault, InputFile, input_line};
 use std::test::Fail;
 
 #[test]

@@ -1,7 +1,10 @@
-use crate::{Request, Task, UsageFault, read_words, wants_one};
+use mk_words::{Request, Task, UsageFault, read_words, wants_one};
 use std::alloc::{AllocError, AllocGlobal, Global};
 use std::process::Abort;
 use std::test::Fail;
+
+// What is wanted where the words say nothing of it: so many workers, this budget, and no bound.
+const USUAL: (u32, u64, Option<u64>) = (4, 20_000_000, None);
 
 fn texts_of(alloc: Global, words: &[&str]) -> Result<Vec<String>, AllocError> {
     let mut texts = Vec::new(alloc);
@@ -49,36 +52,34 @@ fn assert_request(
     Ok(())
 }
 
-// The words are not in the language.
-fn assert_wrong(rt: &(impl Abort + AllocGlobal), words: &[&str]) -> Result<(), Fail> {
-    let texts = texts_of(rt.alloc(), words)?;
-    match read_words(rt.alloc(), &texts) {
-        Ok(_) => assert!(rt; false, "{words:?}"),
-        Err(fault) => assert_eq!(rt; fault, UsageFault::Words, "{words:?}"),
+// The words of each row are not in the language.
+fn assert_wrong(rt: &(impl Abort + AllocGlobal), rows: &[&[&str]]) -> Result<(), Fail> {
+    for words in rows {
+        let texts = texts_of(rt.alloc(), words)?;
+        match read_words(rt.alloc(), &texts) {
+            Ok(_) => assert!(rt; false, "{words:?}"),
+            Err(fault) => assert_eq!(rt; fault, UsageFault::Words, "{words:?}"),
+        }
+        assert!(rt; wants_one(rt.alloc(), &texts)?);
     }
-    assert!(rt; wants_one(rt.alloc(), &texts)?);
     Ok(())
 }
 
 #[test]
 fn projects_are_asked_for(rt: HostRuntime) -> Result<(), Fail> {
     let rows = [
-        (["P"].as_slice(), (4, 20_000_000, None), "P"),
-        (["P", "--"].as_slice(), (4, 20_000_000, None), "P"),
-        (["-"].as_slice(), (4, 20_000_000, None), "-"),
+        (["P"].as_slice(), USUAL, "P"),
+        (["P", "--"].as_slice(), USUAL, "P"),
+        (["-"].as_slice(), USUAL, "-"),
         (
             ["--workers=03", "--", "-P"].as_slice(),
             (3, 20_000_000, None),
             "-P",
         ),
-        (
-            ["--", "--workers=3"].as_slice(),
-            (4, 20_000_000, None),
-            "--workers=3",
-        ),
-        (["--", "--"].as_slice(), (4, 20_000_000, None), "--"),
-        (["help"].as_slice(), (4, 20_000_000, None), "help"),
-        (["P=1"].as_slice(), (4, 20_000_000, None), "P=1"),
+        (["--", "--workers=3"].as_slice(), USUAL, "--workers=3"),
+        (["--", "--"].as_slice(), USUAL, "--"),
+        (["help"].as_slice(), USUAL, "help"),
+        (["P=1"].as_slice(), USUAL, "P=1"),
         (
             ["--workers", "1", "P"].as_slice(),
             (1, 20_000_000, None),
@@ -113,7 +114,6 @@ fn projects_are_asked_for(rt: HostRuntime) -> Result<(), Fail> {
 
 #[test]
 fn models_are_asked_for(rt: HostRuntime) -> Result<(), Fail> {
-    let usual = (4, 20_000_000, None);
     assert_request(
         &rt,
         &["--model", "2x03", "--budget", "7"],
@@ -121,8 +121,8 @@ fn models_are_asked_for(rt: HostRuntime) -> Result<(), Fail> {
         "",
         &[2, 3],
     )?;
-    assert_request(&rt, &["--model=16x16x2"], usual, "", &[16, 16, 2])?;
-    assert_request(&rt, &["--model", "8x8x8", "--"], usual, "", &[8, 8, 8])?;
+    assert_request(&rt, &["--model=16x16x2"], USUAL, "", &[16, 16, 2])?;
+    assert_request(&rt, &["--model", "8x8x8", "--"], USUAL, "", &[8, 8, 8])?;
     assert_request(
         &rt,
         &["--upto=4", "--model=3x3x3"],
@@ -134,67 +134,82 @@ fn models_are_asked_for(rt: HostRuntime) -> Result<(), Fail> {
 
 #[test]
 fn nothing_to_do_is_refused(rt: HostRuntime) -> Result<(), Fail> {
-    assert_wrong(&rt, &[])?;
-    assert_wrong(&rt, &[""])?;
-    assert_wrong(&rt, &["--"])?;
-    assert_wrong(&rt, &["--", ""])?;
-    assert_wrong(&rt, &["P", "Q"])?;
-    assert_wrong(&rt, &["P", "--", "Q"])
+    let rows: [&[&str]; 6] = [
+        &[],
+        &[""],
+        &["--"],
+        &["--", ""],
+        &["P", "Q"],
+        &["P", "--", "Q"],
+    ];
+    assert_wrong(&rt, &rows)
 }
 
 #[test]
 fn other_options_are_refused(rt: HostRuntime) -> Result<(), Fail> {
-    assert_wrong(&rt, &["-P"])?;
-    assert_wrong(&rt, &["--help"])?;
-    assert_wrong(&rt, &["-h", "P"])?;
-    assert_wrong(&rt, &["--version"])?;
-    assert_wrong(&rt, &["-V", "P"])?;
-    assert_wrong(&rt, &["-\u{fc}", "P"])?;
-    assert_wrong(&rt, &["workers", "1", "P"])?;
-    assert_wrong(&rt, &["--worker", "1", "P"])?;
-    assert_wrong(&rt, &["--workersx=1", "P"])?;
-    assert_wrong(&rt, &["--=1", "P"])
+    let rows: [&[&str]; 10] = [
+        &["-P"],
+        &["--help"],
+        &["-h", "P"],
+        &["--version"],
+        &["-V", "P"],
+        &["-\u{fc}", "P"],
+        &["workers", "1", "P"],
+        &["--worker", "1", "P"],
+        &["--workersx=1", "P"],
+        &["--=1", "P"],
+    ];
+    assert_wrong(&rt, &rows)
 }
 
 #[test]
 fn options_without_a_value_or_twice_are_refused(rt: HostRuntime) -> Result<(), Fail> {
-    assert_wrong(&rt, &["P", "--workers"])?;
-    assert_wrong(&rt, &["--workers", "1", "--workers", "1", "P"])?;
-    assert_wrong(&rt, &["--budget=1", "--budget", "1", "P"])?;
-    assert_wrong(&rt, &["--workers", "--budget=1", "P"])?;
-    assert_wrong(&rt, &["--workers", "--", "P"])?;
-    assert_wrong(&rt, &["P", "--workers", "--"])?;
-    assert_wrong(&rt, &["--workers=--", "P"])?;
-    assert_wrong(&rt, &["--workers==1", "P"])?;
-    assert_wrong(&rt, &["--workers", "-1", "P"])
+    let rows: [&[&str]; 9] = [
+        &["P", "--workers"],
+        &["--workers", "1", "--workers", "1", "P"],
+        &["--budget=1", "--budget", "1", "P"],
+        &["--workers", "--budget=1", "P"],
+        &["--workers", "--", "P"],
+        &["P", "--workers", "--"],
+        &["--workers=--", "P"],
+        &["--workers==1", "P"],
+        &["--workers", "-1", "P"],
+    ];
+    assert_wrong(&rt, &rows)
 }
 
 #[test]
 fn other_numbers_are_refused(rt: HostRuntime) -> Result<(), Fail> {
-    assert_wrong(&rt, &["--workers=-1", "P"])?;
-    assert_wrong(&rt, &["--workers=+1", "P"])?;
-    assert_wrong(&rt, &["--workers=", "P"])?;
-    assert_wrong(&rt, &["--workers=0", "P"])?;
-    assert_wrong(&rt, &["--workers=65", "P"])?;
-    assert_wrong(&rt, &["--workers=18446744073709551617", "P"])?;
-    assert_wrong(&rt, &["--budget", "100000001", "P"])?;
-    assert_wrong(&rt, &["--budget", "1 ", "P"])?;
-    assert_wrong(&rt, &["--upto", "18446744073709551616", "P"])?;
-    assert_wrong(&rt, &["--upto", "-1", "P"])
+    let rows: [&[&str]; 10] = [
+        &["--workers=-1", "P"],
+        &["--workers=+1", "P"],
+        &["--workers=", "P"],
+        &["--workers=0", "P"],
+        &["--workers=65", "P"],
+        &["--workers=18446744073709551617", "P"],
+        &["--budget", "100000001", "P"],
+        &["--budget", "1 ", "P"],
+        &["--upto", "18446744073709551616", "P"],
+        &["--upto", "-1", "P"],
+    ];
+    assert_wrong(&rt, &rows)
 }
 
 #[test]
 fn other_models_are_refused(rt: HostRuntime) -> Result<(), Fail> {
-    assert_wrong(&rt, &["--model", "2x2", "P"])?;
-    assert_wrong(&rt, &["--model", "2x2", "--model", "2x2"])?;
-    assert_wrong(&rt, &["--model", "4"])?;
-    assert_wrong(&rt, &["--model", "2x2x2x2"])?;
-    assert_wrong(&rt, &["--model", "2X2"])?;
-    assert_wrong(&rt, &["--model", "2x"])?;
-    assert_wrong(&rt, &["--model", "x2x2"])?;
-    assert_wrong(&rt, &["--model", "1x2"])?;
-    assert_wrong(&rt, &["--model", "17x2"])?;
-    assert_wrong(&rt, &["--model", "9x9x7"])?;
-    assert_wrong(&rt, &["--model", "3x3x57"])?;
-    assert_wrong(&rt, &["--model", "16x16x3"])
+    let rows: [&[&str]; 12] = [
+        &["--model", "2x2", "P"],
+        &["--model", "2x2", "--model", "2x2"],
+        &["--model", "4"],
+        &["--model", "2x2x2x2"],
+        &["--model", "2X2"],
+        &["--model", "2x"],
+        &["--model", "x2x2"],
+        &["--model", "1x2"],
+        &["--model", "17x2"],
+        &["--model", "9x9x7"],
+        &["--model", "3x3x57"],
+        &["--model", "16x16x3"],
+    ];
+    assert_wrong(&rt, &rows)
 }

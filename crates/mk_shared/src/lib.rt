@@ -13,6 +13,3 @@ pub use answers::{Busy, RefreshFault, SettleFault, SettledBy, SplitFault, TryCha
 pub use completion::SharedCompletion;
 pub use seat::Seat;
 pub use state::{HeldPair, MadeEntry, Outset, SharedLedger};
-
-#[cfg(test)]
-mod tests;

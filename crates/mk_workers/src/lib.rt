@@ -12,6 +12,3 @@ mod working;
 pub use completing::complete_shared;
 pub use gate::{Gate, OpenGate};
 pub use working::worker_loop;
-
-#[cfg(test)]
-mod tests;

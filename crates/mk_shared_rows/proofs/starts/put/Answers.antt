@@ -1,7 +1,7 @@
 use Rattle.std.proofs.Common.{List, ℤ, ℕ, Ok, subst}
 use Rattle.mk_move.specs.Moves.{ReadsRow}
 use Rattle.mk_reduce.proofs.BasisMoves.{row_belongs}
-use Rattle.mk_shared.proofs.tests.put.Goals as goal
+use Rattle.mk_shared_rows.proofs.starts.put.Goals as goal
 
 pub push-requires-clause-belongs : goal.push-requires-clause-belongs
 push-requires-clause-belongs c =

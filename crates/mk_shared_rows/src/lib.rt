@@ -1,0 +1,11 @@
+//! The calls of the seats of a shared completion, each with what it must give. The tests are all there is.
+#![tactic(auto)]
+
+#[cfg(test)]
+mod calls;
+#[cfg(test)]
+mod rows;
+#[cfg(test)]
+mod starts;
+#[cfg(test)]
+mod threads;

@@ -60,7 +60,7 @@ pub fn reduce<F: Finder>(
 }
 
 /// Reduces a row by the basis until no lead divides either part: true; or until a step leaves zero: false; or until a step
-/// is refused. The steps are put to the trace. The weight of the row isn't kept.
+/// is refused. The steps are put to the end of the trace. The weight of the row isn't kept.
 fn reduce_with_trace<F: Finder>(
     rest: &mut Move,
     trace: &mut Vec<Step>,
@@ -73,7 +73,7 @@ fn reduce_with_trace<F: Finder>(
     ensures { ReducesWithTrace basis.now rest.old.entries trace.old.items result rest.new trace.new.items }
 {
     while let Some(step) = next_step(rest, basis, finder) {
-        // So nothing has changed where there is no memory for it.
+        // Where there is no memory for the step, nothing has changed yet.
         trace.push(step)?;
         match rest.take_off(step.times, basis.move_at(step.place)) {
             Ok(true) => {}

@@ -4,6 +4,7 @@ pub mod StandardLists
 pub mod FirstLists
 pub mod Parts
 pub mod Divisions
+pub mod LowestBits
 pub mod BitWalks
 pub mod Readings
 pub mod Factors

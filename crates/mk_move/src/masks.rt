@@ -34,8 +34,7 @@ pub fn first_bit(bits: u64) -> (u32, u64)
     ensures others { (place : ℕ) → place < 64 → place ≢ result.0 → bit_at result.1 place ≡ bit_at bits place }
     ensures fewer { result.1 < bits }
 {
-    let place = bits.trailing_zeros();
-    (place, bits & !(1 << place))
+    (bits.trailing_zeros(), bits & (bits - 1))
 }
 
 /// How many columns a block has, of so many columns: 1 for up to 64 columns, and 8 for 512.

@@ -1,10 +1,10 @@
--- The entries of runs as the last run grows, shrinks, begins and ends, and the starts that are kept of them.
-use Rattle.std.proofs.Common.{◌≡◌, ◌≢◌, ◌⊎◌, inl, inr, ℕ, suc, ◌+◌, ◌-◌, ◌*◌, ◌/◌, ◌%◌, ◌<◌, ◌≤◌, List, [], ◌∷◌, ◌++◌, length, map, take, set, get_or, arith, refl, sym, ap, ◌∙◌, subst, ⊎_elim, length-append, append_assoc, append-nil}
+-- The entries of runs as the last run begins, grows, shrinks and ends, and where an entry stands among them.
+use Rattle.std.proofs.Common.{◌≡◌, ℕ, suc, ◌+◌, ◌-◌, ◌<◌, ◌≤◌, List, [], ◌∷◌, ◌++◌, length, map, take, set, get_or, arith, refl, sym, ap, ◌∙◌, subst, ⊎_elim, length-append, append_assoc, append-nil}
 use Rattle.std.specs.List.{range_with_len, slice_get}
 use Rattle.std.specs.Prelude.{Some}
-use Rattle.std.proofs.Math.Seq.{take-suc, take-length, get_or-append_seam, take-append_seam}
+use Rattle.std.proofs.Math.Seq.{take-suc, take-length, take-append_seam}
 use Rattle.std.proofs.lemmas.Grind.{flat_map-append, take-set_at}
-use Rattle.std.proofs.lemmas.List.{take_all, take-set-le, take-append-le, length-set, length-take-le, get_or-take, get_or_append_left, get_or_default}
+use Rattle.std.proofs.lemmas.List.{take_all, length-set, get_or_default}
 use Rattle.std.proofs.lemmas.List.Concat.{get_or-flat_map}
 use Rattle.std.proofs.lemmas.List.FromFn.{length-map-range_with_len, get_or-map-range_with_len, map-range_with_len_more}
 use Rattle.std.proofs.lemmas.Option.{slice_get-get_or}
@@ -14,14 +14,14 @@ use Rattle.mk_ledger.specs.declared.journal.Kind.TheVariants as kind
 use Rattle.mk_ledger.specs.declared.journal.JournalEntry.{JournalEntry}
 use Rattle.mk_ledger.specs.declared.journal.Run.{Run}
 use Rattle.mk_ledger.specs.Entries.{third_of, way_of, HasItsThird}
-use Rattle.mk_ledger.specs.JournalRuns.{more_of, third_in, entry_in, entries_in, entries_of, IsContinuedBy, AreStarts}
+use Rattle.mk_ledger.specs.JournalRuns.{more_of, third_in, entry_in, entries_in, entries_of, IsContinuedBy}
 
 -- ---- the entries of one run
-pub length_in : (run : Run) → length (entries_in run) ≡ more_of run.kind run.number + 1
+length_in : (run : Run) → length (entries_in run) ≡ more_of run.kind run.number + 1
 unfolding entries_in
 length_in run = length-map-range_with_len (entry_in run) 0 (more_of run.kind run.number + 1)
 
-pub entry_within : (run : Run) (before : ℕ) (d : JournalEntry) → before ≤ more_of run.kind run.number → get_or (entries_in run) before d ≡ entry_in run before
+entry_within : (run : Run) (before : ℕ) (d : JournalEntry) → before ≤ more_of run.kind run.number → get_or (entries_in run) before d ≡ entry_in run before
 unfolding entries_in
 entry_within run before d l = get_or-map-range_with_len (entry_in run) 0 (more_of run.kind run.number + 1) before before d (omega arith) (omega arith)
 
@@ -41,7 +41,7 @@ third_kept kind.Chain third h = (refl, refl)
 third_kept kind.Zero third h = (refl, refl)
 third_kept kind.Place third h = (refl, refl)
 
-abbrev pub run_of : JournalEntry → Run
+abbrev run_of : JournalEntry → Run
 run_of entry = record { i = entry.i; j = entry.j; number = entry.third; worker = entry.worker; kind = entry.kind }
 
 pub alone : (entry : JournalEntry) → HasItsThird entry → entries_in (run_of entry) ≡ entry ∷ []
@@ -63,7 +63,7 @@ longer : (run : Run) (number : ℕ) → entries_in (run_with run (number + 1) ki
 unfolding entries_in
 longer run number = map-range_with_len_more (entry_in (run_with run number kind.Coprime)) 0 (number + 1) (number + 1) (omega arith)
 
-pub continued : (run : Run) (entry : JournalEntry) → HasItsThird entry → IsContinuedBy run entry → entries_in (with_number run (run.number + 1)) ≡ entries_in run ++ entry ∷ []
+continued : (run : Run) (entry : JournalEntry) → HasItsThird entry → IsContinuedBy run entry → entries_in (with_number run (run.number + 1)) ≡ entries_in run ++ entry ∷ []
 continued run entry third h =
     subst (λ k. entries_in (run_with run (run.number + 1) k) ≡ entries_in (run_with run run.number k) ++ entry ∷ []) (sym h.run_kind)
     (longer run run.number ∙ ap (λ e. entries_in (run_with run run.number kind.Coprime) ++ e ∷ []) same)
@@ -81,7 +81,7 @@ only_disjoint kind.Chain number l = absurd (omega arith)
 only_disjoint kind.Zero number l = absurd (omega arith)
 only_disjoint kind.Place number l = absurd (omega arith)
 
-pub shorter : (run : Run) → 0 < more_of run.kind run.number → (last : JournalEntry) × (entries_in run ≡ entries_in (with_number run (run.number - 1)) ++ last ∷ [])
+shorter : (run : Run) → 0 < more_of run.kind run.number → (last : JournalEntry) × (entries_in run ≡ entries_in (with_number run (run.number - 1)) ++ last ∷ [])
 shorter run l =
     subst (λ k. (last : JournalEntry) × (entries_in (run_with run run.number k) ≡ entries_in (run_with run (run.number - 1) k) ++ last ∷ [])) (sym coprime) (
       entry_in (run_with run (run.number - 1) kind.Coprime) (run.number - 1 + 1),
@@ -98,26 +98,26 @@ shorter run l =
     back = omega (arith, some)
 
 -- ---- the last of the runs
-pub entries_behind : (runs : List Run) (run : Run) → entries_of (runs ++ run ∷ []) ≡ entries_of runs ++ entries_in run
+entries_behind : (runs : List Run) (run : Run) → entries_of (runs ++ run ∷ []) ≡ entries_of runs ++ entries_in run
 entries_behind runs run = flat_map-append entries_in runs (run ∷ []) ∙ ap (λ l. entries_of runs ++ l) (append-nil (entries_in run))
 
-abbrev pub front_of : List Run → List Run
+abbrev front_of : List Run → List Run
 front_of runs = take (length runs - 1) runs
 
-pub last_apart : (runs : List Run) (d : Run) → 0 < length runs → runs ≡ front_of runs ++ get_or runs (length runs - 1) d ∷ []
+last_apart : (runs : List Run) (d : Run) → 0 < length runs → runs ≡ front_of runs ++ get_or runs (length runs - 1) d ∷ []
 last_apart runs d l =
     let e : suc (length runs - 1) ≡ length runs = omega (arith, l) in
     sym (take-length runs) ∙ ap (λ n. take n runs) (sym e) ∙ take-suc runs (length runs - 1) d (omega (arith, l))
 
-pub last_written : (runs : List Run) (run : Run) → 0 < length runs → set runs (length runs - 1) run ≡ front_of runs ++ run ∷ []
+last_written : (runs : List Run) (run : Run) → 0 < length runs → set runs (length runs - 1) run ≡ front_of runs ++ run ∷ []
 last_written runs run l =
     sym (take_all (length runs) (set runs (length runs - 1) run) (omega (arith, length-set runs (length runs - 1) run)))
     ∙ take-set_at runs (length runs - 1) (length runs) run (omega (arith, l)) (omega (arith, l))
 
-pub entries_apart : (runs : List Run) (d : Run) → 0 < length runs → entries_of runs ≡ entries_of (front_of runs) ++ entries_in (get_or runs (length runs - 1) d)
+entries_apart : (runs : List Run) (d : Run) → 0 < length runs → entries_of runs ≡ entries_of (front_of runs) ++ entries_in (get_or runs (length runs - 1) d)
 entries_apart runs d l = ap (λ rs. entries_of rs) (last_apart runs d l) ∙ entries_behind (front_of runs) (get_or runs (length runs - 1) d)
 
-pub entries_written : (runs : List Run) (run : Run) → 0 < length runs → entries_of (set runs (length runs - 1) run) ≡ entries_of (front_of runs) ++ entries_in run
+entries_written : (runs : List Run) (run : Run) → 0 < length runs → entries_of (set runs (length runs - 1) run) ≡ entries_of (front_of runs) ++ entries_in run
 entries_written runs run l = ap (λ rs. entries_of rs) (last_written runs run l) ∙ entries_behind (front_of runs) run
 
 -- the last run grows by an entry that continues it
@@ -156,62 +156,6 @@ entries_popped runs last l read none =
     let one = one_alone (entries_in last) (length_in last ∙ ap (λ n. n + 1) none) in
     without_last (entries_of runs) (entries_of (front_of runs)) one.0
     (entries_apart runs last l ∙ ap (λ (r : Run). entries_of (front_of runs) ++ entries_in r) (sym read) ∙ ap (λ es. entries_of (front_of runs) ++ es) one.1)
-
--- ---- starts
-same_front : (starts : List ℕ) (runs others : List Run) → AreStarts starts runs → length others ≤ length runs → ((n : ℕ) → n < length others → take n others ≡ take n runs) → AreStarts starts others
-same_front starts runs others h l same = record {
-  room = omega (arith, h.room, l);
-  each = λ k w. h.each k (omega (arith, w, l)) ∙ ap (λ rs. length (entries_of rs)) (sym (same (16 * k) w));
-}
-
-pub starts_written : (starts : List ℕ) (runs : List Run) (run : Run) → AreStarts starts runs → AreStarts starts (set runs (length runs - 1) run)
-starts_written starts runs run h =
-    let long = length-set runs (length runs - 1) run in
-    same_front starts runs (set runs (length runs - 1) run) h (omega (arith, long)) (λ n w. take-set-le n runs (length runs - 1) run (omega (arith, w, long)))
-
-pub starts_popped : (starts : List ℕ) (runs : List Run) (d : Run) → 0 < length runs → AreStarts starts runs → AreStarts starts (front_of runs)
-starts_popped starts runs d l h =
-    let long : length (front_of runs) ≡ length runs - 1 = length-take-le (length runs - 1) runs (omega arith) in
-    same_front starts runs (front_of runs) h (omega (arith, long))
-    (λ n w. sym (ap (λ rs. take n rs) (last_apart runs d l) ∙ take-append-le n (front_of runs) (get_or runs (length runs - 1) d ∷ []) (omega (arith, w))))
-
-pub starts_between : (starts : List ℕ) (runs : List Run) (run : Run) → length runs % 16 ≢ 0 → AreStarts starts runs → AreStarts starts (runs ++ run ∷ [])
-starts_between starts runs run apart h =
-    let long = length-append runs (run ∷ []) in record {
-      room = omega (arith, h.room, apart, long);
-      each = λ k w. h.each k (omega (arith, w, apart, long)) ∙ ap (λ rs. length (entries_of rs)) (sym (take-append-le (16 * k) runs (run ∷ []) (omega (arith, w, long))));
-    }
-
-pub starts_cut : (starts : List ℕ) (runs : List Run) → length runs % 16 ≡ 0 → AreStarts starts runs → AreStarts (take (length runs / 16) starts) runs
-starts_cut starts runs e h =
-    let long : length (take (length runs / 16) starts) ≡ length runs / 16 = length-take-le (length runs / 16) starts (omega (arith, h.room)) in record {
-      room = omega (arith, e, long);
-      each = λ k w. get_or-take (length runs / 16) starts k 0 (omega (arith, w, e)) ∙ h.each k w;
-    }
-
-pub starts_more : (starts : List ℕ) (runs : List Run) (count : ℕ) (run : Run) → length runs % 16 ≡ 0 → count ≡ length (entries_of runs) → AreStarts starts runs →
-    AreStarts (take (length runs / 16) starts ++ count ∷ []) (runs ++ run ∷ [])
-starts_more starts runs count run e counted h = record { room = omega (arith, e, long, length-append cut (count ∷ []), length-append runs (run ∷ [])); each = each }
-  where
-    cut : List ℕ
-    cut = take (length runs / 16) starts
-
-    long : length cut ≡ length runs / 16
-    long = length-take-le (length runs / 16) starts (omega (arith, h.room))
-
-    either : (k : ℕ) → (16 * k < length runs) ⊎ (length runs ≤ 16 * k) → 16 * k < length (runs ++ run ∷ []) → get_or (cut ++ count ∷ []) k 0 ≡ length (entries_of (take (16 * k) runs))
-    either k (inl l) w =
-        get_or_append_left cut (count ∷ []) 0 k (omega (arith, l, e, long))
-        ∙ (starts_cut starts runs e h).each k l
-    either k (inr l) w =
-        let at : k ≡ length cut = omega (arith, l, w, e, long, length-append runs (run ∷ [])) in
-        ap (λ n. get_or (cut ++ count ∷ []) n 0) at ∙ get_or-append_seam cut count [] 0 ∙ counted
-        ∙ sym (ap (λ rs. length (entries_of rs)) (take_all (16 * k) runs l))
-
-    each : (k : ℕ) → 16 * k < length (runs ++ run ∷ []) → get_or (cut ++ count ∷ []) k 0 ≡ length (entries_of (take (16 * k) (runs ++ run ∷ [])))
-    each k w =
-        either k (cases_lt (16 * k) (length runs)) w
-        ∙ ap (λ rs. length (entries_of rs)) (sym (take-append-le (16 * k) runs (run ∷ []) (omega (arith, w, length-append runs (run ∷ [])))))
 
 -- ---- an entry by its number
 pub entries_to : (runs : List Run) (place : ℕ) (run : Run) → place < length runs → run ≡ get_or runs place run →

@@ -32,7 +32,7 @@ pub struct JournalEntry {
 /// Entries of a journal that follow one another: one, or, for Coprime, those of one worker and the second place `j` whose
 /// first places follow one after another from `i` on. `number` is how many entries come behind the first for Coprime, and
 /// the entry's third else.
-#[derive(Clone, Copy, Debug, Drop, PartialEq, Eq)]
+#[derive(Clone, Copy, Debug, Drop)]
 struct Run {
     i: u16,
     j: u16,

@@ -1,5 +1,6 @@
 pub mod PairNumbers
 pub mod Words
+pub mod JournalRuns
 pub mod InOrder
 pub mod HeldClaims
 pub mod Claiming

@@ -1,5 +1,6 @@
 pub mod PairFlags
 pub mod Entries
+pub mod JournalRuns
 pub mod Halts
 pub mod Ledgers
 pub mod Claims

@@ -80,10 +80,10 @@ fn a_long_journal_finds_each_entry(rt: HostRuntime) -> Result<(), Fail> {
     for k in 0..100 {
         push_each(&mut journal, &[(3 * k, 400, 2), (3 * k + 1, 400, 2)])?;
     }
-    for n in 0..journal.len() {
+    assert_eq!(rt; journal.len(), 200);
+    for n in 0..200 {
         let first = n / 2 * 3 + n % 2;
         assert_eq!(rt; u64::from(journal.entry_at(n).i), first);
     }
-    assert_eq!(rt; journal.len(), 200);
     Ok(())
 }

@@ -136,6 +136,7 @@ impl Journal {
     }
 
     /// Puts an entry at the end. After a refusal the journal is as before.
+    #[inline(always)]
     pub fn push(&mut self, entry: JournalEntry) -> Result<(), NoMemory>
         requires { HasItsThird entry }
         ensures ok { OnOk result (self.new ≡ self.old ++ entry ∷ []) }

@@ -123,7 +123,24 @@ fn writes_a_header_alone(rt: HostRuntime) -> Result<(), Fail> {
     assert_written(&rt, &list, MANY, "0 4\n", 2)
 }
 
-// Rows with how many bytes a call moves, the call that fails, and what the two moves leave then. Behind it the file can be ended.
+// The list is written so far, where the call of this number fails, and then the file can be ended.
+fn assert_stopped(
+    rt: &(impl Abort + AllocGlobal),
+    list: &Moves,
+    chunk: usize,
+    failing: u64,
+    text: &str,
+) -> Result<(), Fail> {
+    let mut folder = making(rt, chunk, failing)?;
+    let answer = write_moves(rt.alloc(), &mut folder, list);
+    assert_eq!(rt; answer, Err(WriteFault::Failed), "call {failing} fails");
+    assert_eq!(rt; folder.made(), text.as_bytes());
+    assert_eq!(rt; folder.calls(), failing);
+    folder.end_write()?;
+    assert_eq!(rt; folder.file("new"), Some(text.as_bytes()));
+    Ok(())
+}
+
 #[test]
 fn a_refused_line_leaves_those_before_it(rt: HostRuntime) -> Result<(), Fail> {
     let list = two_moves(&rt)?;
@@ -133,13 +150,7 @@ fn a_refused_line_leaves_those_before_it(rt: HostRuntime) -> Result<(), Fail> {
         (MANY, 4, "2 3\n2 -1 0\n"),
         (1, 8, "2 3\n2 "),
     ] {
-        let mut folder = making(&rt, chunk, failing)?;
-        let answer = write_moves(rt.alloc(), &mut folder, &list);
-        assert_eq!(rt; answer, Err(WriteFault::Failed), "call {failing} fails");
-        assert_eq!(rt; folder.made(), text.as_bytes());
-        assert_eq!(rt; folder.calls(), failing);
-        folder.end_write()?;
-        assert_eq!(rt; folder.file("new"), Some(text.as_bytes()));
+        assert_stopped(&rt, &list, chunk, failing, text)?;
     }
     Ok(())
 }

@@ -2,7 +2,7 @@
 #![tactic(auto)]
 
 #[cfg(test)]
-mod filled;
+mod calls;
 #[cfg(test)]
 mod memory_folders;
 #[cfg(test)]

@@ -1,4 +1,4 @@
-use crate::filled::{MANY, folder_of};
+use crate::calls::{MANY, folder_of};
 use mk_files::{Place, TableFault};
 use mk_grading::GradeFault;
 use mk_input::{InputFault, InputFile, Problem, ReadFault, read_project};

@@ -1,5 +1,5 @@
-use crate::filled::assert_load;
-use mk_desk::{DeskFault, Folder, Found, LoadFault, RealFolder, put_all};
+use crate::calls::{assert_end, assert_load, assert_put, assert_started, assert_write};
+use mk_desk::{DeskFault, Folder, Found, LoadFault, RealFolder};
 use std::alloc::{AllocError, AllocGlobal, Global};
 use std::fs;
 use std::io::{Eprint, Print};
@@ -17,10 +17,10 @@ fn a_real_file_is_made_and_read(rt: HostRuntime) -> Result<(), Fail> {
     let name = "real_folder_made.txt";
     fs::write(&rt, name, "old")?;
     let mut folder = RealFolder::new(rt.alloc(), &rt);
-    folder.start_write(name)?;
-    put_all(&mut folder, b"new")?;
+    assert_started(&rt, &mut folder, name);
+    assert_put(&rt, &mut folder, "new", Ok(()));
     assert_load(&rt, &mut folder, name, 10, Ok(Some("old")));
-    folder.end_write()?;
+    assert_end(&rt, &mut folder, Ok(()));
     assert_load(&rt, &mut folder, name, 10, Ok(Some("new")));
     fs::remove_file(&rt, name)?;
     assert_load(&rt, &mut folder, name, 10, Ok(None));
@@ -45,11 +45,11 @@ fn assert_part<R: Abort + AllocGlobal + Files + Print + Eprint>(
     let name = "real_folder_part.txt";
     let part = part_of(rt.alloc(), taken.saturating_add(1))?;
     let mut folder = RealFolder::new(rt.alloc(), rt);
-    folder.start_write(name)?;
+    assert_started(rt, &mut folder, name);
     assert!(rt; !fs::exists(rt, part.as_str())?);
-    put_all(&mut folder, b"new")?;
+    assert_put(rt, &mut folder, "new", Ok(()));
     assert_eq!(rt; text_of(rt, part.as_str())?.as_str(), "new");
-    folder.end_write()?;
+    assert_end(rt, &mut folder, Ok(()));
     assert_eq!(rt; text_of(rt, name)?.as_str(), "new");
     assert!(rt; !fs::exists(rt, part.as_str())?);
     fs::remove_file(rt, name)?;
@@ -64,9 +64,9 @@ fn names_that_are_taken_are_left(rt: HostRuntime) -> Result<(), Fail> {
         fs::write(&rt, part_of(rt.alloc(), number)?.as_str(), "older")?;
     }
     let mut folder = RealFolder::new(rt.alloc(), &rt);
-    folder.start_write("real_folder_part.txt")?;
-    assert_eq!(rt; folder.write(b"new"), Err(DeskFault::Failed));
-    assert_eq!(rt; folder.end_write(), Err(DeskFault::Failed));
+    assert_started(&rt, &mut folder, "real_folder_part.txt");
+    assert_write(&rt, &mut folder, "new", Err(DeskFault::Failed));
+    assert_end(&rt, &mut folder, Err(DeskFault::Failed));
     assert!(rt; !fs::exists(&rt, "real_folder_part.txt")?);
     assert!(rt; !fs::exists(&rt, "real_folder_part.txt.part101")?);
     remove_parts(&rt)
@@ -86,9 +86,9 @@ fn remove_parts(rt: &(impl Abort + AllocGlobal + Files)) -> Result<(), Fail> {
 fn an_empty_file_is_made_at_its_end(rt: HostRuntime) -> Result<(), Fail> {
     let name = "real_folder_empty.txt";
     let mut folder = RealFolder::new(rt.alloc(), &rt);
-    folder.start_write(name)?;
+    assert_started(&rt, &mut folder, name);
     assert!(rt; !fs::exists(&rt, "real_folder_empty.txt.part")?);
-    folder.end_write()?;
+    assert_end(&rt, &mut folder, Ok(()));
     assert_eq!(rt; text_of(&rt, name)?.as_str(), "");
     fs::remove_file(&rt, name)?;
     Ok(())
@@ -104,10 +104,10 @@ fn a_path_through_a_file_fails(rt: HostRuntime) -> Result<(), Fail> {
         folder.start_read("real_folder_none/below"),
         Ok(Found::Absent)
     );
-    folder.start_write(below)?;
-    assert_eq!(rt; folder.write(b"new"), Err(DeskFault::Failed));
-    assert_eq!(rt; folder.write(b"new"), Err(DeskFault::Failed));
-    assert_eq!(rt; folder.end_write(), Err(DeskFault::Failed));
+    assert_started(&rt, &mut folder, below);
+    assert_write(&rt, &mut folder, "new", Err(DeskFault::Failed));
+    assert_write(&rt, &mut folder, "new", Err(DeskFault::Failed));
+    assert_end(&rt, &mut folder, Err(DeskFault::Failed));
     fs::remove_file(&rt, "real_folder_file.txt")?;
     Ok(())
 }
@@ -117,9 +117,9 @@ fn a_place_that_is_a_folder_fails(rt: HostRuntime) -> Result<(), Fail> {
     fs::create_dir(&rt, "real_folder_dir")?;
     fs::write(&rt, "real_folder_dir/file", "kept")?;
     let mut folder = RealFolder::new(rt.alloc(), &rt);
-    folder.start_write("real_folder_dir")?;
-    put_all(&mut folder, b"new")?;
-    assert_eq!(rt; folder.end_write(), Err(DeskFault::Failed));
+    assert_started(&rt, &mut folder, "real_folder_dir");
+    assert_put(&rt, &mut folder, "new", Ok(()));
+    assert_end(&rt, &mut folder, Err(DeskFault::Failed));
     assert!(rt; !fs::exists(&rt, "real_folder_dir.part")?);
     fs::remove_dir_all(&rt, "real_folder_dir")?;
     Ok(())

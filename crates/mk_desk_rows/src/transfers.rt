@@ -1,5 +1,5 @@
-use crate::filled::{MANY, assert_load, folder_of};
-use mk_desk::{Channel, Folder, LoadFault, put_all, say_all};
+use crate::calls::{MANY, assert_load, assert_put, assert_started, folder_of};
+use mk_desk::{Channel, DeskFault, LoadFault, say_all};
 use std::alloc::AllocGlobal;
 use std::process::Abort;
 use std::test::Fail;
@@ -58,17 +58,17 @@ fn load_fails_at_each_call(rt: HostRuntime) -> Result<(), Fail> {
 }
 
 // Puts "abc", where this write fails.
-fn assert_put(
+fn assert_made(
     rt: &(impl Abort + AllocGlobal),
     chunk: usize,
     failing: u64,
-    wanted: &str,
+    front: &str,
+    wanted: Result<(), DeskFault>,
 ) -> Result<(), Fail> {
     let mut folder = folder_of(rt.alloc(), &FILES, chunk, failing.saturating_add(1))?;
-    folder.start_write("new")?;
-    let put = put_all(&mut folder, b"abc");
-    assert_eq!(rt; put.is_ok(), wanted == "abc", "call {failing} fails");
-    assert_eq!(rt; folder.made(), wanted.as_bytes());
+    assert_started(rt, &mut folder, "new");
+    assert_put(rt, &mut folder, "abc", wanted);
+    assert_eq!(rt; folder.made(), front.as_bytes());
     Ok(())
 }
 
@@ -77,28 +77,30 @@ fn assert_said(
     rt: &(impl Abort + AllocGlobal),
     chunk: usize,
     failing: u64,
-    wanted: &str,
+    front: &str,
+    wanted: Result<(), DeskFault>,
 ) -> Result<(), Fail> {
     let mut folder = folder_of(rt.alloc(), &FILES, chunk, failing)?;
     let said = say_all(&mut folder, Channel::Err, b"abc");
-    assert_eq!(rt; said.is_ok(), wanted == "abc", "call {failing} fails");
-    assert_eq!(rt; folder.said(Channel::Err), wanted.as_bytes());
-    assert_eq!(rt; folder.said(Channel::Out), b"".as_slice());
+    assert_eq!(rt; said, wanted, "call {failing} fails");
+    assert_eq!(rt; folder.said(Channel::Err), front.as_bytes());
+    assert!(rt; folder.said(Channel::Out).is_empty());
     Ok(())
 }
 
 #[test]
 fn a_refused_piece_leaves_its_front(rt: HostRuntime) -> Result<(), Fail> {
-    for (chunk, failing, front) in [
-        (1, 1, ""),
-        (1, 2, "a"),
-        (1, 3, "ab"),
-        (1, 4, "abc"),
-        (MANY, 1, ""),
-        (MANY, 2, "abc"),
+    let failed = Err(DeskFault::Failed);
+    for (chunk, failing, front, wanted) in [
+        (1, 1, "", failed),
+        (1, 2, "a", failed),
+        (1, 3, "ab", failed),
+        (1, 4, "abc", Ok(())),
+        (MANY, 1, "", failed),
+        (MANY, 2, "abc", Ok(())),
     ] {
-        assert_put(&rt, chunk, failing, front)?;
-        assert_said(&rt, chunk, failing, front)?;
+        assert_made(&rt, chunk, failing, front, wanted)?;
+        assert_said(&rt, chunk, failing, front, wanted)?;
     }
     Ok(())
 }

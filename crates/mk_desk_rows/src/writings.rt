@@ -1,8 +1,7 @@
-ghost use Rattle.std.specs.Prelude.{◌≡◌, true, length, IfOk, All};
-ghost use Rattle.mk_desk.specs.MemoryFolders.{memory_state};
+ghost use Rattle.std.specs.Prelude.{◌≡◌, length, IfOk, All};
 ghost use Rattle.mk_model.specs.Vectors.{IsEntry};
 
-use crate::filled::{MANY, folder_of};
+use crate::calls::{MANY, assert_end, assert_file, assert_started, folder_of};
 use mk_desk::{Folder, MemoryFolder};
 use mk_model::{ENTRY_MAX, Entry};
 use mk_move::{Grading, Move, MoveList, Priority};
@@ -62,44 +61,46 @@ fn move_of(rt: &(impl Abort + AllocGlobal), row: &[Entry], weights: &[i64]) -> R
     Ok(m)
 }
 
-// The moves `2 -1 0` and `1 1 -1`.
-fn two_moves(rt: &(impl Abort + AllocGlobal)) -> Result<Moves, Fail> {
-    let mut moves = Vec::new(rt.alloc());
-    moves.push(move_of(rt, &[2, -1, 0], &[1, 2, 3])?)?;
-    moves.push(move_of(rt, &[1, 1, -1], &[1, 2, 3])?)?;
-    Ok(Moves { columns: 3, moves })
-}
-
-// A folder that makes a file, after which the call of this number fails, counted from 1, where the start is the first.
-fn making(rt: &impl AllocGlobal, chunk: usize, failing: u64) -> Result<MemoryFolder, Fail>
-    ensures { IfOk result (λ folder. (memory_state folder).making ≡ true) }
-{
-    let mut folder = folder_of(rt.alloc(), &[], chunk, failing)?;
-    folder.start_write("new")?;
-    Ok(folder)
-}
-
-// The list is written so, by as many calls with the start, where a call moves at most so many bytes.
+// The list is written so far, and then the file can be ended, where the call of this number fails, counted from 1, or none: the
+// start of the file is the first. A call moves at most so many bytes, and there are so many till the end.
 fn assert_written(
     rt: &(impl Abort + AllocGlobal),
     list: &Moves,
     chunk: usize,
+    failing: u64,
+    wanted: Result<(), WriteFault>,
     text: &str,
     calls: u64,
 ) -> Result<(), Fail> {
-    let mut folder = making(rt, chunk, 0)?;
-    write_moves(rt.alloc(), &mut folder, list)?;
+    let mut folder = folder_of(rt.alloc(), &[], chunk, failing)?;
+    assert_started(rt, &mut folder, "new");
+    assert!(rt; folder.is_making());
+    let answer = write_moves(rt.alloc(), &mut folder, list);
+    assert_eq!(rt; answer, wanted, "call {failing} fails");
+    assert_eq!(rt; folder.made(), text.as_bytes());
     assert_eq!(rt; folder.calls(), calls);
-    folder.end_write()?;
-    assert_eq!(rt; folder.file("new"), Some(text.as_bytes()));
+    assert_end(rt, &mut folder, Ok(()));
+    assert_file(rt, &folder, "new", Some(text));
     Ok(())
 }
 
+// Two moves, and what is written of them where a line is refused.
 #[test]
 fn writes_a_line_for_each_move(rt: HostRuntime) -> Result<(), Fail> {
-    let list = two_moves(&rt)?;
-    for (chunk, calls) in [(MANY, 4), (1, 19)] {
-        assert_written(&rt, &list, chunk, "2 3\n2 -1 0\n1 1 -1\n", calls)?;
+    let mut moves = Vec::new(rt.alloc());
+    moves.push(move_of(&rt, &[2, -1, 0], &[1, 2, 3])?)?;
+    moves.push(move_of(&rt, &[1, 1, -1], &[1, 2, 3])?)?;
+    let list = Moves { columns: 3, moves };
+    let failed = Err(WriteFault::Failed);
+    for (chunk, failing, wanted, text, calls) in [
+        (MANY, 0, Ok(()), "2 3\n2 -1 0\n1 1 -1\n", 4),
+        (1, 0, Ok(()), "2 3\n2 -1 0\n1 1 -1\n", 19),
+        (MANY, 2, failed, "", 2),
+        (MANY, 3, failed, "2 3\n", 3),
+        (MANY, 4, failed, "2 3\n2 -1 0\n", 4),
+        (1, 8, failed, "2 3\n2 ", 8),
+    ] {
+        assert_written(&rt, &list, chunk, failing, wanted, text, calls)?;
     }
     Ok(())
 }
@@ -111,7 +112,7 @@ fn has_room_for_the_longest_entries(rt: HostRuntime) -> Result<(), Fail> {
     let list = Moves { columns: 3, moves };
     let text =
         "1 3\n1208925819614629174706175 1208925819614629174706175 -1208925819614629174706175\n";
-    assert_written(&rt, &list, MANY, text, 3)
+    assert_written(&rt, &list, MANY, 0, Ok(()), text, 3)
 }
 
 #[test]
@@ -120,26 +121,5 @@ fn writes_a_header_alone(rt: HostRuntime) -> Result<(), Fail> {
         columns: 4,
         moves: Vec::new(rt.alloc()),
     };
-    assert_written(&rt, &list, MANY, "0 4\n", 2)
-}
-
-// Rows with how many bytes a call moves, the call that fails, and what the two moves leave then. Behind it the file can be ended.
-#[test]
-fn a_refused_line_leaves_those_before_it(rt: HostRuntime) -> Result<(), Fail> {
-    let list = two_moves(&rt)?;
-    for (chunk, failing, text) in [
-        (MANY, 2, ""),
-        (MANY, 3, "2 3\n"),
-        (MANY, 4, "2 3\n2 -1 0\n"),
-        (1, 8, "2 3\n2 "),
-    ] {
-        let mut folder = making(&rt, chunk, failing)?;
-        let answer = write_moves(rt.alloc(), &mut folder, &list);
-        assert_eq!(rt; answer, Err(WriteFault::Failed), "call {failing} fails");
-        assert_eq!(rt; folder.made(), text.as_bytes());
-        assert_eq!(rt; folder.calls(), failing);
-        folder.end_write()?;
-        assert_eq!(rt; folder.file("new"), Some(text.as_bytes()));
-    }
-    Ok(())
+    assert_written(&rt, &list, MANY, 0, Ok(()), "0 4\n", 2)
 }

@@ -59,9 +59,7 @@ fn the_last_rows_of_tables_of_three_sizes_end_in_the_cube(rt: HostRuntime) -> Re
 #[test]
 fn summaries_are_as_written_out(rt: HostRuntime) -> Result<(), Fail> {
     let mut cube = [6; 81];
-    for place in 0..27 {
-        cube[place] = 4;
-    }
+    cube[..27].copy_from_slice(&[4; 27]);
     for (sizes, rows, columns, weights, text) in [
         (
             [2, 2].as_slice(),

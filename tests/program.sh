@@ -1,6 +1,6 @@
 #!/usr/bin/env bash
 # Runs the built program over real files and compares its status, what it says and the files that it leaves: each folder of
-# examples/ against its answer, and what only real files show. The rows of whole runs stand in crates/mk_rows and crates/mk_row_faults.
+# examples/ against its answer, and what only real files show. The rows of whole runs stand in crates/mk_rows and crates/mk_fault_rows.
 # Usage: tests/program.sh PROGRAM
 
 [ $# -eq 1 ] && [ -f "$1" ] || { echo "usage: $0 PROGRAM" >&2; exit 2; }

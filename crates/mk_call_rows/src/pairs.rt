@@ -1,11 +1,6 @@
-ghost use Rattle.std.specs.Prelude.{◌≡◌, length, All};
-ghost use Rattle.mk_model.specs.Vectors.{IsEntry};
-ghost use Rattle.mk_reduce.specs.Leads.{leads_of};
-
 use crate::shown::{assert_moves, assert_row, start_of, table_of};
-use mk_core::{LeadFinder, drop_redundant, finder_of};
-use mk_model::Entry;
-use mk_move::{Basis, Finder, Move, OverflowAt, Side};
+use mk_core::{drop_redundant, finder_of};
+use mk_move::OverflowAt;
 use mk_reduce::{Stop, Work, critical, reduce};
 use std::alloc::AllocGlobal;
 use std::process::Abort;
@@ -20,8 +15,6 @@ const LARGE: &str =
 
 const STEEP: &str =
     "3 4\n1 0 0 -1\n0 604462909807314587353088 604462909807314587353087 -1208925819614629174706175\n4 -3 0 -1\n";
-
-const OVERLAPPING: &str = "3 4\n1 1 -1 -1\n1 -1 1 -1\n-1 1 1 -1\n";
 
 // The difference of the two leaves the range.
 const NO_DIFFERENCE: Stop = Stop::Overflow {
@@ -94,37 +87,6 @@ fn pairs_are_reduced(rt: HostRuntime) -> Result<(), Fail> {
         let front = if refused.is_some() { 0 } else { basis.len() };
         assert_eq!(rt; work.front(), front);
     }
-    Ok(())
-}
-
-// The place of a lead of the basis that divides the positive part of the move of a row, or none.
-fn found_for(
-    rt: &(impl Abort + AllocGlobal),
-    basis: &Basis,
-    finder: &LeadFinder,
-    row: &[Entry],
-) -> Result<Option<u32>, Fail>
-    requires columns { length row.now ≡ 4 }
-    requires entries { All IsEntry row.now }
-    requires leads { finder.now ≡ leads_of basis.now.moves }
-{
-    assert_eq!(rt; finder.count(), basis.len());
-    assert_eq!(rt; basis.grading().columns(), 4);
-    assert_eq!(rt; basis.priority().columns(), 4);
-    let found = Move::from_row(rt.alloc(), row, basis.grading(), basis.priority())?;
-    let Some(m) = found else {
-        panic!(rt; "the zero row");
-    };
-    Ok(finder.find(&m, Side::Plus))
-}
-
-#[test]
-fn a_lead_divides_or_none_does(rt: HostRuntime) -> Result<(), Fail> {
-    let basis = start_of(&rt, OVERLAPPING, None)?;
-    assert_moves(&rt, &basis, OVERLAPPING)?;
-    let finder = finder_of(rt.alloc(), &basis)?;
-    assert_eq!(rt; found_for(&rt, &basis, &finder, &[1, 1, -2, 0])?, Some(0));
-    assert_eq!(rt; found_for(&rt, &basis, &finder, &[0, 2, -2, 0])?, None);
     Ok(())
 }
 

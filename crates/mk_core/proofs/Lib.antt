@@ -13,3 +13,4 @@ pub mod Lines
 pub mod Turns
 pub mod Halting
 pub mod Neighbours
+pub mod DisjointPairs

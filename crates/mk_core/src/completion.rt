@@ -13,7 +13,7 @@ ghost use Rattle.mk_core.specs.Remainders.{IsRemainderOfClaim};
 
 use crate::completed::Completed;
 use crate::phase::{Job, Phase, Stopped};
-use crate::skipping::skip_pair;
+use crate::skipping::{skip_disjoint, skip_pair};
 use crate::third_moves::ThirdMoves;
 use crate::work::{WorkFault, work_on};
 use mk_ledger::{Claim, Halt, Ledger, LedgerParts, PlaceFault};
@@ -98,6 +98,7 @@ fn settle_pairs(
     let mut scratch = Scratch::new();
     let mut third_moves = ThirdMoves::new(alloc);
     loop {
+        skip_disjoint(ledger)?;
         match next_pair(ledger) {
             Ok((i, j)) => settle_pair(&mut scratch, ledger, finder, &mut third_moves, i, j)?,
             Err(ending) => return Ok(ending),

@@ -40,8 +40,10 @@ fn is_redundant_at(basis: &Basis, place: u32) -> bool
     requires { place < length basis.now.moves }
     ensures { result ≡ is_redundant_at (vectors_of basis.now.moves) place }
 {
+    let masks = basis.lead_masks();
+    let outside = !masks[place as usize];
     for other in 0..basis.len() {
-        if makes_redundant(basis, other, place) {
+        if masks[other as usize] & outside == 0 && makes_redundant(basis, other, place) {
             return true;
         }
     }
@@ -55,10 +57,6 @@ fn makes_redundant(basis: &Basis, other: u32, place: u32) -> bool
     requires place { place < length basis.now.moves }
     ensures { result ≡ makes_redundant (vectors_of basis.now.moves) other place }
 {
-    let masks = basis.lead_masks();
-    if masks[other as usize] & !masks[place as usize] != 0 {
-        return false;
-    }
     let v = basis.move_at(other);
     let m = basis.move_at(place);
     lead_divides(v, m, Side::Plus) && (other < place || !lead_divides(m, v, Side::Plus))

@@ -5,12 +5,23 @@ ghost use Rattle.mk_model.specs.CoreStates.{pair_of, move_at};
 ghost use Rattle.mk_model.specs.Orders.{lead};
 ghost use Rattle.mk_model.specs.Pairs.{AreDisjoint};
 ghost use Rattle.mk_move.specs.MoveLists.{vectors_of};
-ghost use Rattle.mk_core.specs.GoingOn.{GoesOnUnclaimed, FirstClaims, SkipsPair, IsChainOfClaim};
+ghost use Rattle.mk_core.specs.GoingOn.{GoesOnUnclaimed, NoneClaims, FirstClaims, SkipsPair, IsChainOfClaim};
 
 use crate::third_moves::ThirdMoves;
 use mk_ledger::{ChainFault, Ledger};
 use mk_model::NoMemory;
 use mk_move::{Basis, coprime_leads};
+
+/// Claims and settles the next pairs of one second place, as long as the masks of their leads have no bit in common.
+pub(crate) fn skip_disjoint(ledger: &mut Ledger) -> Result<(), NoMemory>
+    requires unclaimed { NoneClaims ledger.old.state }
+    ensures goes_on { GoesOnUnclaimed ledger.old ledger.new }
+    ensures basis { ledger.new.basis ≡ ledger.old.basis }
+{
+    // Whoever has its basis knows that it is legal, and has a worker.
+    let _ = ledger.basis();
+    ledger.settle_disjoint(0)
+}
 
 /// Settles the pair that the worker has claimed without reduction, where its leads have no column in common or else a third
 /// move is found that settles it, and tells whether it did.

@@ -142,36 +142,3 @@ fn sync_entry<R: Files>(rt: &R, name: &str) {
         let _ = folder.sync_all();
     }
 }
-
-#[cfg(test)]
-mod tests {
-    use super::*;
-    use std::test::Fail;
-
-    // Whether the file was made, under this name beside its place.
-    fn is_made<R: Files>(part: &Part<R>, name: &str) -> bool {
-        match part {
-            Part::Open { beside, .. } => beside.as_str() == name,
-            _ => false,
-        }
-    }
-
-    #[test]
-    fn names_that_are_taken_are_left(rt: HostRuntime) -> Result<(), Fail> {
-        fs::write(&rt, "taken_test.part", "one")?;
-        fs::write(&rt, "taken_test.part2", "two")?;
-        let none = make_part(rt.alloc(), &rt, "taken_test", 2)?;
-        assert!(rt; matches!(none, Part::NoMore));
-        let third = make_part(rt.alloc(), &rt, "taken_test", 3)?;
-        assert!(rt; is_made(&third, "taken_test.part3"));
-        assert_eq!(rt; fs::read_to_string(&rt, "taken_test.part")?.as_str(), "one");
-        assert_eq!(rt;
-            fs::read_to_string(&rt, "taken_test.part2")?.as_str(),
-            "two"
-        );
-        for name in ["taken_test.part", "taken_test.part2", "taken_test.part3"] {
-            fs::remove_file(&rt, name)?;
-        }
-        Ok(())
-    }
-}

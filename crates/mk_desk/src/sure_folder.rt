@@ -193,25 +193,3 @@ pub fn sure_folder_has_no_fault()
     ensures never { (before after : SureFolder)
         → Rose (⟦<SureFolder as Folder>⟧.state before).faults (⟦<SureFolder as Folder>⟧.state after).faults → ⊥ }
 {}
-
-#[cfg(test)]
-mod tests {
-    use super::*;
-    use crate::transfer::{put_all, say_all};
-    use std::test::Fail;
-
-    #[test]
-    fn makes_a_file_and_says_a_piece(rt: HostRuntime) -> Result<(), Fail> {
-        let mut folder = SureFolder::new(rt.alloc(), BTreeMap::new(rt.alloc()));
-        folder.start_write("a")?;
-        put_all(&mut folder, b"xy")?;
-        assert_eq!(rt; folder.file("a"), None);
-        folder.end_write()?;
-        say_all(&mut folder, Channel::Out, b"z")?;
-        assert_eq!(rt; folder.len(), 1);
-        assert_eq!(rt; folder.file("a"), Some(b"xy".as_slice()));
-        assert_eq!(rt; folder.said(Channel::Out), b"z".as_slice());
-        assert_eq!(rt; folder.said(Channel::Err), b"".as_slice());
-        Ok(())
-    }
-}

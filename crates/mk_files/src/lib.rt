@@ -10,8 +10,6 @@ mod fault;
 mod numbers;
 mod reading;
 mod table;
-#[cfg(test)]
-mod tests;
 mod tokens;
 
 pub use bounds::{Bounds, MAX_COLUMNS, MAX_ROWS};

@@ -5,8 +5,6 @@
 mod laws;
 mod model;
 mod report;
-#[cfg(test)]
-mod tests;
 
 pub use laws::entries_of_models;
 pub use model::model_table;

@@ -9,6 +9,3 @@ mod sums;
 
 pub use choice::choose;
 pub use fault::GradeFault;
-
-#[cfg(test)]
-mod tests;

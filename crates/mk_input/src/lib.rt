@@ -5,8 +5,6 @@ mod fault;
 mod laws;
 mod problem;
 mod reading;
-#[cfg(test)]
-mod tests;
 
 pub use fault::ReadFault;
 pub use laws::{faults_exclude_each_other, problem_has_no_fault};

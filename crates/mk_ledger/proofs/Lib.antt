@@ -11,3 +11,4 @@ pub mod Haltings
 pub mod SettledFields
 pub mod HaltedFields
 pub mod PlacedFields
+pub mod DisjointPairs

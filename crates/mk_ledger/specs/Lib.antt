@@ -7,3 +7,4 @@ pub mod LedgerFields
 pub mod HeldClaims
 pub mod FirstHalts
 pub mod Settlings
+pub mod DisjointPairs

@@ -12,6 +12,10 @@ ghost use Rattle.mk_ledger.specs.HeldClaims.{MayClaim, NoneHeld, IsLeastOf};
 ghost use Rattle.mk_model.specs.CoreStates.Way.{Zero, Coprime};
 ghost use Rattle.mk_ledger.specs.Settlings.{IsZeroClaim, IsCoprimeClaim, IsChainClaim, IsUnplacedClaim, AreBothSettled, IsFirstUnsettled, AnswersChain, IsReductOfClaim, IsFullClaim, IsPlacing, HaltsFull, AreSmall, AreFlagsOf, IsGrown, NotFull};
 ghost use Rattle.mk_ledger.specs.Halts.{halt_as};
+ghost use Rattle.mk_ledger.specs.DisjointPairs.{SettlesDisjoint, IsNextDisjoint, IsOpenRow};
+ghost use Rattle.mk_model.specs.CoreStates.{move_at};
+ghost use Rattle.mk_model.specs.Orders.{lead};
+ghost use Rattle.mk_model.specs.Pairs.{AreDisjoint};
 
 use crate::bits::SettledBits;
 use crate::claims::{Claim, Held, least_claim, none_held};
@@ -317,6 +321,70 @@ impl Ledger {
         ensures err { OnErr result (self.new ≡ self.old) }
     {
         self.settle_unplaced(worker, 0, Kind::Coprime)
+    }
+
+    /// Settles pairs at once for a worker that has no claim: the next pair and those behind it that have its second place, as
+    /// long as the masks of the two leads have no bit in common and the budget isn't used up, and none where a worker has
+    /// halted. For each it is, event by event, what claiming it and settling it by its disjoint leads is. After a refusal the
+    /// pairs before stay settled. (Sturmfels, chapter 1: coprime leading terms)
+    pub fn settle_disjoint(&mut self, worker: u32) -> Result<(), NoMemory>
+        requires within { worker < self.old.state.workers }
+        requires idle { claim_of self.old.state worker ≡ None }
+        ensures settles { SettlesDisjoint (length self.old.basis.grading) self.old.basis.priority self.old.state worker self.new.state }
+        ensures basis { self.new.basis ≡ self.old.basis }
+    {
+        let (start, j, end) = self.open_row();
+        for i in start..end {
+            if !self.have_disjoint_masks(i, j) {
+                return Ok(());
+            }
+            self.settle_next(worker, i, j)?;
+        }
+        Ok(())
+    }
+
+    /// The places of the next pair, and the first place at which the pairs of the second end that may be claimed one after
+    /// another: at once where a worker has halted, the pair isn't one of the basis, or the budget is used up.
+    fn open_row(&self) -> (u32, u32, u32)
+        ensures { IsOpenRow self.now.state result.0 result.1 result.2 }
+    {
+        let (i, j) = self.next.pair();
+        let made = self.next.number();
+        if self.first.is_some() || j >= self.basis.len() || made >= self.budget {
+            return (i, j, i);
+        }
+        let left = self.budget - made;
+        if left < u64::from(j - i) {
+            return (i, j, i + left as u32);
+        }
+        (i, j, j)
+    }
+
+    /// Have the masks of two leads no bit in common?
+    fn have_disjoint_masks(&self, i: u32, j: u32) -> bool
+        requires first { i < length self.now.state.basis }
+        requires second { j < length self.now.state.basis }
+        ensures { IsTrue result → AreDisjoint (lead (move_at self.now.state.basis i)) (lead (move_at self.now.state.basis j)) }
+    {
+        let masks = self.basis.lead_masks();
+        masks[i as usize] & masks[j as usize] == 0
+    }
+
+    /// Claims the next pair and settles it by its disjoint leads. After a refusal all is as before.
+    fn settle_next(&mut self, worker: u32, i: u32, j: u32) -> Result<(), NoMemory>
+        requires { IsNextDisjoint self.old.state worker (pair_of i j) }
+        ensures settles { OnOk result (SettlesDisjoint (length self.old.basis.grading) self.old.basis.priority self.old.state worker self.new.state) }
+        ensures one { OnOk result (self.new.state.claims_made ≡ self.old.state.claims_made + 1) }
+        ensures basis { self.new.basis ≡ self.old.basis }
+        ensures err { OnErr result (self.new ≡ self.old) }
+    {
+        // Whoever has its basis knows that it is legal, and so how many moves and workers there are.
+        let _ = self.basis();
+        let entry = entry_of(Held { i, j }, worker, 0, Kind::Coprime);
+        self.journal.push(entry)?;
+        self.settled.mark(i, j);
+        self.next.advance();
+        Ok(())
     }
 
     /// Settles the claim of a worker through a third move, different from both, whose lead divides the least common multiple

@@ -15,6 +15,3 @@ pub use halt::{Halt, OverflowStop};
 pub use journal::{Journal, JournalEntry, Kind};
 pub use ledger::{ChainFault, Ledger, LedgerParts, PlaceFault};
 pub use pairs::{Frontier, pair_number};
-
-#[cfg(test)]
-mod tests;

@@ -18,3 +18,4 @@ pub mod MaskOrders
 pub mod Chains
 pub mod Takings
 pub mod Copies
+pub mod Multiples

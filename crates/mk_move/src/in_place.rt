@@ -1,8 +1,9 @@
 //! Steps in place: a multiple of a move is taken off another in its own memory.
 
-ghost use Rattle.std.specs.Prelude.{◌≡◌, ◌≢◌, ◌≤◌, ◌<◌, ◌^◌, ◌↔◌, ℕ, true, false, unsigned_abs, length, All, IsTrue, Ok, MatchOption, MatchResult, ◌-ℤ◌, ◌*ℤ◌, ◌<ℤ◌, pos};
+ghost use Rattle.std.specs.Prelude.{◌≡◌, ◌≢◌, ◌≤◌, ◌<◌, ◌^◌, ◌↔◌, ℕ, ℤ, List, true, false, unsigned_abs, length, All, IsTrue, Ok, MatchOption, MatchResult, ◌-ℤ◌, ◌*ℤ◌, ◌<ℤ◌, pos};
 ghost use Rattle.std.specs.Int.{bit_at};
-ghost use Rattle.mk_model.specs.Vectors.{IsEntry, positive_part, weight, zeros};
+ghost use Rattle.std.specs.Int.RustNames.{bit_or};
+ghost use Rattle.mk_model.specs.Vectors.{IsEntry, positive_part, scale, weight, zeros};
 ghost use Rattle.mk_move.specs.Masks.{AreMasks};
 ghost use Rattle.mk_move.specs.Steps.{IsOverflow, minus_times};
 ghost use Rattle.mk_move.specs.InPlace.{TakesOffInPlace, IsWide, AreBits, AreSameBut, IsWithEntry, LeavesSome};
@@ -81,17 +82,35 @@ impl Move {
         requires times { unsigned_abs times < 2 ^ 45 }
         ensures { MatchOption result (self.new ≡ self.old) (λ left. TakesOffInPlace self.old times v.now.entries (Ok left) self.new) }
     {
+        if self.is_multiple(times, v) {
+            return Some(false);
+        }
         let bits = v.plus | v.minus;
         let right = v.entries.as_slice();
         let row = self.entries.as_mut_slice();
         let taken = take_off_at(row, self.plus, self.minus, times, right, bits);
-        if taken.in_range && taken.plus | taken.minus != 0 {
+        if taken.in_range {
             self.plus = taken.plus;
             self.minus = taken.minus;
             return Some(true);
         }
         let _ = take_off_at(row, taken.plus, taken.minus, -times, right, bits);
-        if taken.in_range { Some(false) } else { None }
+        None
+    }
+
+    /// Is it so many times `v`, of as many columns? Where it isn't, masks mostly tell.
+    fn is_multiple(&self, times: Entry, v: &Move) -> bool
+        requires columns { length v.now.entries ≡ length self.now.entries }
+        requires few { length self.now.entries ≤ 64 }
+        requires times { unsigned_abs times < 2 ^ 45 }
+        ensures { IsTrue result ↔ (minus_times self.now.entries times v.now.entries ≡ zeros (length self.now.entries)) }
+    {
+        let (plus, minus) = masks_of_multiple(times, v.plus, v.minus);
+        if self.plus != plus || self.minus != minus {
+            return false;
+        }
+        let bits = v.plus | v.minus;
+        is_multiple_at(self.entries.as_slice(), times, v.entries.as_slice(), bits)
     }
 
     /// As `take_off_quickly`, over all columns.
@@ -164,6 +183,60 @@ fn copy_at(row: &mut [Entry], right: &[Entry], bits: u64)
         row[column as usize] = right[column as usize];
         left = others;
     }
+}
+
+/// The masks of both parts of so many times a vector with these masks, where the number isn't 0.
+fn masks_of_multiple(times: Entry, plus: u64, minus: u64) -> (u64, u64)
+    ensures masks { (y : List ℤ) → AreMasks y plus minus → times ≢ pos 0 → AreMasks (scale times y) result.0 result.1 }
+    ensures bits { bit_or result.0 result.1 ≡ bit_or plus minus }
+{
+    if times < 0 {
+        (minus, plus)
+    } else {
+        (plus, minus)
+    }
+}
+
+/// Is the row so many times the other, of as many columns? Both have entries at the bits alone.
+fn is_multiple_at(row: &[Entry], times: Entry, right: &[Entry], bits: u64) -> bool
+    requires columns { length row.now ≡ length right.now }
+    requires left { All IsEntry row.now }
+    requires times { unsigned_abs times < 2 ^ 45 }
+    requires right { All IsEntry right.now }
+    requires bits { AreBits row.now bits }
+    requires right_bits { AreBits right.now bits }
+    ensures { IsTrue result ↔ (minus_times row.now times right.now ≡ zeros (length row.now)) }
+{
+    // Compiled for each of the usual numbers, it doesn't multiply.
+    if times == 1 {
+        return is_multiple_each(row, 1, right, bits);
+    }
+    if times == -1 {
+        return is_multiple_each(row, -1, right, bits);
+    }
+    is_multiple_each(row, times, right, bits)
+}
+
+/// As `is_multiple_at`, bit after bit.
+#[inline(always)]
+fn is_multiple_each(row: &[Entry], times: Entry, right: &[Entry], bits: u64) -> bool
+    requires columns { length row.now ≡ length right.now }
+    requires left { All IsEntry row.now }
+    requires times { unsigned_abs times < 2 ^ 45 }
+    requires right { All IsEntry right.now }
+    requires bits { AreBits row.now bits }
+    requires right_bits { AreBits right.now bits }
+    ensures { IsTrue result ↔ (minus_times row.now times right.now ≡ zeros (length row.now)) }
+{
+    let mut left = bits;
+    while left != 0 {
+        let (column, others) = first_bit(left);
+        if wide_less(row[column as usize], times, right[column as usize]) != 0 {
+            return false;
+        }
+        left = others;
+    }
+    true
 }
 
 /// The masks of both parts of a row, and whether its entries are known to be in range.

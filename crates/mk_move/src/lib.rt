@@ -30,8 +30,3 @@ pub use priority::Priority;
 pub use settled::SettledPairs;
 pub use side::Side;
 pub use steps::{OverflowAt, StepFault, subtract_times};
-
-#[cfg(test)]
-mod in_place_tests;
-#[cfg(test)]
-mod tests;

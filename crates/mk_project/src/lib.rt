@@ -5,8 +5,6 @@ mod fault;
 mod file;
 mod laws;
 mod lines;
-#[cfg(test)]
-mod tests;
 
 pub use fault::InputFault;
 pub use file::{FILE_LIMIT, InputFile, file_name};

@@ -12,13 +12,12 @@ use Rattle.mk_model.specs.Overflows.{IsFirstBeyond}
 use Rattle.mk_model.proofs.VectorAlgebra.{scale-one}
 use Rattle.mk_move.specs.Moves.{Weighed, IsMoveKept}
 use Rattle.mk_move.specs.MoveLists.{BasisView, vectors_of}
-use Rattle.mk_move.specs.Steps.{minus_times, TakesOff, IsStepFault, IsOverflow}
+use Rattle.mk_move.specs.Steps.{minus_times, TakesOff, IsOverflow}
 use Rattle.mk_move.specs.declared.steps.OverflowAt.{OverflowAt}
-use Rattle.mk_move.specs.declared.steps.StepFault.{StepFault}
-use Rattle.mk_move.specs.declared.steps.StepFault.TheVariants.{Memory, Overflow}
+use Rattle.mk_reduce.specs.declared.stop.Stop.TheVariants.{Overflow}
 use Rattle.mk_reduce.specs.declared.step.Step.{Step}
 use Rattle.mk_reduce.specs.Works.{WorkOf, rest_of, IsRest}
-use Rattle.mk_reduce.specs.Stops.{stop_for, overflow_of, IsDifferenceRefused}
+use Rattle.mk_reduce.specs.Stops.{overflow_of, IsDifferenceRefused}
 
 pub vector_at : (moves : List Weighed) (k : ℕ) (m : Weighed) → slice_get moves k ≡ Some m → move_at (vectors_of moves) k ≡ m.entries
 vector_at moves k m h =
@@ -55,10 +54,6 @@ pub rest_graded : (x y w : List ℤ) (times : ℤ) (rest : Option Weighed) → l
 rest_graded x y w times None l h = tt
 rest_graded x y w times (Some m) l h = record { columns = ap length h.entries ∙ l; graded = h.graded }
 
-pub rest_kept : (x y w : List ℤ) (times : ℤ) (rest : Option Weighed) → TakesOff x times y w (Ok rest) → IfSome rest IsMoveKept
-rest_kept x y w times None h = tt
-rest_kept x y w times (Some m) h = h.kept
-
 -- the overflow of a difference has the numbers of a stop
 pub first_beyond : (x y : List ℤ) (factor : ℤ) (at : OverflowAt) (pair : Pair) (operand : Option (List ℤ)) (by : Option ℕ) → IsOverflow x y factor at → IsFirstBeyond x y (overflow_of pair operand by at)
 first_beyond x y factor at pair operand by f = record {
@@ -68,9 +63,8 @@ first_beyond x y factor at pair operand by f = record {
   lesser = rw f.times f.lesser;
 }
 
-pub not_begun : (moves : List Weighed) (i j : ℕ) (a b : Weighed) (fault : StepFault) → slice_get moves i ≡ Some a → slice_get moves j ≡ Some b → IsStepFault b.entries a.entries (pos 1) fault → IsDifferenceRefused moves (pair_of i j) (stop_for fault None)
-not_begun moves i j a b Memory h k f = tt
-not_begun moves i j a b (Overflow at) h k f =
+pub not_begun : (moves : List Weighed) (i j : ℕ) (a b : Weighed) (at : OverflowAt) → slice_get moves i ≡ Some a → slice_get moves j ≡ Some b → IsOverflow b.entries a.entries (pos 1) at → IsDifferenceRefused moves (pair_of i j) (Overflow None at)
+not_begun moves i j a b at h k f =
     let beyond = first_beyond b.entries a.entries (pos 1) at (pair_of i j) None None f in
     let moved = subst (λ x. IsFirstBeyond x a.entries (overflow_of (pair_of i j) None None at)) (sym (vector_at moves j b k)) beyond in (
       refl,

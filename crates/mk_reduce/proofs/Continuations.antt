@@ -13,7 +13,7 @@ last_steps : (moves : List (List ℤ)) (r : List ℤ) (trace more : List Step) (
 last_steps moves r [] more middle last e l = subst (λ x. LeadsTo moves x more last) (sym e) l
 last_steps moves r (step ∷ trace) more middle last (h, k) (g, l) = last_steps moves (after_step moves r step) trace more middle last k l
 
-trace_reduct : (moves : List (List ℤ)) (r : List ℤ) (trace : List Step) (last : List ℤ) → LeadsTo moves r trace last → Reduct moves r last
+pub trace_reduct : (moves : List (List ℤ)) (r : List ℤ) (trace : List Step) (last : List ℤ) → LeadsTo moves r trace last → Reduct moves r last
 trace_reduct moves r [] last e = subst (Reduct moves r) (sym e) here
 trace_reduct moves r (step ∷ trace) last (h, l) =
     go (reduction_of moves r (after_step moves r step) step h refl) (trace_reduct moves (after_step moves r step) trace last l)

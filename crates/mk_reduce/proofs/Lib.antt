@@ -5,7 +5,7 @@ pub mod BasisMoves
 pub mod NextSteps
 pub mod MoreSteps
 pub mod Falls
-pub mod Reducing
 pub mod LongerBases
 pub mod Continuations
 pub mod Remainders
+pub mod Traces

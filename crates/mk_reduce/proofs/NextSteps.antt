@@ -21,7 +21,7 @@ use Rattle.mk_move.proofs.Divisions.{not_on_both}
 use Rattle.mk_move.specs.declared.side.Side.{Side}
 use Rattle.mk_move.specs.declared.side.Side.TheVariants.{Plus, Minus}
 use Rattle.mk_reduce.specs.Leads.{leads_of}
-use Rattle.mk_reduce.specs.Works.{IsReductionStep}
+use Rattle.mk_reduce.specs.Works.{IsReductionStep, AreBothSides}
 use Rattle.mk_reduce.proofs.LeadLists.{lead_at, length-leads_of}
 use Rattle.mk_reduce.proofs.Beginnings.{vector_at, length-vectors_of}
 
@@ -114,3 +114,12 @@ normal moves m k h j = record {
   positive = irreducible moves (positive_part m.entries) h;
   negative = irreducible moves (negative_part m.entries) j;
 }
+
+-- neither part, whichever is looked at first
+pub normal_on : (moves : List Weighed) (m : Weighed) (first second : Side) → IsMoveKept m → AreBothSides first second → All (λ (l : List ℤ). ¬ (Divides l (part_of first m.entries))) (leads_of moves) → All (λ (l : List ℤ). ¬ (Divides l (part_of second m.entries))) (leads_of moves) → IsNormal (vectors_of moves) m.entries
+normal_on moves m first second k sides h j =
+    let none_of : Side → Type 0 = λ side. All (λ (l : List ℤ). ¬ (Divides l (part_of side m.entries))) (leads_of moves) in
+    elim sides [
+      | inl p ↦ normal moves m k (subst none_of p.0 h) (subst none_of p.1 j)
+      | inr p ↦ normal moves m k (subst none_of p.1 j) (subst none_of p.0 h)
+    ]

@@ -17,7 +17,7 @@ use Rattle.mk_move.proofs.Differences.{weight-minus_times}
 use Rattle.mk_reduce.specs.declared.step.Step.{Step}
 use Rattle.mk_reduce.specs.declared.remainder.Blocked.{Blocked}
 use Rattle.mk_reduce.specs.Stops.{overflow_of}
-use Rattle.mk_reduce.specs.Works.{IsReductionStep, after_step}
+use Rattle.mk_reduce.specs.Works.{IsRest, IsReductionStep, after_step}
 use Rattle.mk_reduce.specs.Remainders.{IsNormalRest, IsUnweighed, IsLeftUnweighed, IsBlocked}
 use Rattle.mk_reduce.proofs.Beginnings.{vector_at, difference_at, first_beyond}
 use Rattle.mk_reduce.proofs.BasisMoves.{columns_of}
@@ -69,13 +69,16 @@ module _ (basis : BasisView) (h : IsBasis basis) (first : List ℤ) (m v : Weigh
 abbrev pub with_weight : List ℤ → Weighed → Weighed
 with_weight w m = record m { weight = weight w (positive_part m.entries) }
 
+pub rest_weighed : (w : List ℤ) (m given : Weighed) → IsUnweighed w m → given ≡ with_weight w m → IsRest w given
+rest_weighed w m given h e = subst (λ (x : Weighed). IsRest w x) (sym e) (record { columns = h.columns; graded = record { product = h.product; weight = refl } })
+
 pub rest_left : (basis : BasisView) (pair : Pair) (first : List ℤ) (m given : Weighed) → Reduct (vectors_of basis.moves) (difference (vectors_of basis.moves) pair) first →
     IsLeftUnweighed basis first m → IsNormal (vectors_of basis.moves) m.entries → given ≡ with_weight basis.grading m → IsNormalRest basis pair given
-rest_left basis pair first m given began left normal e = subst (λ (x : Weighed). IsNormalRest basis pair x) (sym e) (record {
-  reduct = reaches_append began left.reduct;
-  rest = record { columns = left.unweighed.columns; graded = record { product = left.unweighed.product; weight = refl } };
-  normal = normal;
-})
+rest_left basis pair first m given began left normal e = record {
+  reduct = subst (λ (x : Weighed). Reduct (vectors_of basis.moves) (difference (vectors_of basis.moves) pair) x.entries) (sym e) (reaches_append began left.reduct);
+  rest = rest_weighed basis.grading m given left.unweighed e;
+  normal = subst (λ (x : Weighed). IsNormal (vectors_of basis.moves) x.entries) (sym e) normal;
+}
 
 pub step_fault : (basis : BasisView) (pair : Pair) (first : List ℤ) (m given : Weighed) (blocked : Blocked) → Reduct (vectors_of basis.moves) (difference (vectors_of basis.moves) pair) first →
     IsLeftUnweighed basis first m → IsBlocked (vectors_of basis.moves) m.entries blocked → given ≡ with_weight basis.grading m →

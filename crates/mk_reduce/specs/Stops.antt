@@ -4,16 +4,9 @@ use Rattle.mk_model.specs.CoreStates.{Pair, OverflowStop, stop_at}
 use Rattle.mk_model.specs.Overflows.{IsGenuineOverflow}
 use Rattle.mk_move.specs.Moves.{Weighed}
 use Rattle.mk_move.specs.declared.steps.OverflowAt.{OverflowAt}
-use Rattle.mk_move.specs.declared.steps.StepFault.{StepFault}
-use Rattle.mk_move.specs.declared.steps.StepFault.TheVariants as Fault
 use Rattle.mk_reduce.specs.declared.stop.Stop.{Stop}
 use Rattle.mk_reduce.specs.declared.stop.Stop.TheVariants.{Memory, Overflow}
 use Rattle.mk_move.specs.MoveLists.{vectors_of}
-
--- the stop for a fault of a difference or of a step
-abbrev pub stop_for : StepFault → Option ℕ → Stop
-stop_for Fault.Memory by = Memory
-stop_for (Fault.Overflow at) by = Overflow by at
 
 -- the numbers of an overflow, at a pair and in a step from the operand
 abbrev pub overflow_of : Pair → Option (List ℤ) → Option ℕ → OverflowAt → OverflowStop

@@ -1,6 +1,6 @@
 -- The work on a pair: what is left of the difference of its moves, and the steps that led there. (Sturmfels, chapters 1
 -- and 5: S-pairs and reduction)
-use Rattle.std.specs.Prelude.{◌≡◌, ◌≢◌, ◌⊎◌, ℕ, ◌≤◌, ◌<◌, Bool, true, false, List, [], ◌∷◌, ◌++◌, length, All, Option, Some, None, IfSome, ℤ, unsigned_abs}
+use Rattle.std.specs.Prelude.{◌≡◌, ◌≢◌, ◌⊎◌, ℕ, ◌≤◌, ◌<◌, List, [], ◌∷◌, ◌++◌, length, All, Option, Some, None, IfSome, ℤ, unsigned_abs}
 use Rattle.mk_model.specs.Vectors.{zeros}
 use Rattle.mk_model.specs.CoreStates.{Pair, move_at, difference, IsPairOf}
 use Rattle.mk_model.specs.Overflows.{IsTimesDividing}
@@ -8,6 +8,8 @@ use Rattle.mk_model.specs.Reductions.{Reduct, IsNormal}
 use Rattle.mk_move.specs.Moves.{Weighed, IsGraded, IsMoveKept}
 use Rattle.mk_move.specs.MoveLists.{BasisView, vectors_of}
 use Rattle.mk_move.specs.Steps.{minus_times}
+use Rattle.mk_move.specs.declared.side.Side.{Side}
+use Rattle.mk_move.specs.declared.side.Side.TheVariants.{Plus, Minus}
 use Rattle.mk_reduce.specs.declared.step.Step.{Step}
 
 -- the pair, how many of the first moves it has been reduced by, what is left, and the steps in their order
@@ -42,22 +44,6 @@ pub record IsRest (w : List ℤ) (m : Weighed) : Type 0 where
   pub columns : length m.entries ≡ length w
   pub graded : IsGraded w m
 
--- what a step leaves of a move, and none for zero
-pub record IsLeftAfter (basis : BasisView) (from : Weighed) (step : Step) (left : Option Weighed) : Type 0 where
-  pub taken : IsReductionStep (vectors_of basis.moves) from.entries step
-  pub entries : rest_of (length basis.grading) left ≡ after_step (vectors_of basis.moves) from.entries step
-  pub graded : IfSome left (IsRest basis.grading)
-  pub kept : IfSome left IsMoveKept
-
--- One step more: what it leaves takes the place of what was left, and it ends the trace.
-pub record IsStepMore (basis : BasisView) (before after : TheWork) : Type 0 where
-  pub from : Weighed
-  pub step : Step
-  pub left : Option Weighed
-  pub was : before.remainder ≡ Some from
-  pub leaves : IsLeftAfter basis from step left
-  pub changed : after ≡ record before { remainder = left; trace = before.trace ++ step ∷ [] }
-
 -- Work on a pair of the basis. What is left isn't zero, and its entries are in range. Each place of the trace is below the
 -- front, unless the front is 0 and something is left.
 pub record WorkOf (work : TheWork) (basis : BasisView) : Type 0 where
@@ -74,11 +60,10 @@ abbrev pub IsReduced : List (List ℤ) → Option Weighed → Type 0
 IsReduced moves None = Unit {0}
 IsReduced moves (Some m) = IsNormal moves m.entries
 
--- one step more, or none: then it is unchanged, and nothing is left or what is left is normal
-abbrev pub Advances : BasisView → TheWork → TheWork → Bool → Type 0
-Advances basis before after true = IsStepMore basis before after
-Advances basis before after false = (after ≡ before) × IsReduced (vectors_of basis.moves) before.remainder
-
 -- the trace has the earlier steps, and maybe more behind them
 abbrev pub ContinuesWork : List Step → List Step → Type 0
 ContinuesWork earlier trace = (more : List Step) × (trace ≡ earlier ++ more)
+
+-- the two sides of a vector, in either order
+abbrev pub AreBothSides : Side → Side → Type 0
+AreBothSides first second = ((first ≡ Plus) × (second ≡ Minus)) ⊎ ((first ≡ Minus) × (second ≡ Plus))

@@ -5,7 +5,7 @@ ghost use Rattle.mk_reduce.specs.Stops.{IsDifferenceRefused};
 
 use crate::stop::Stop;
 use crate::work::Work;
-use mk_move::{Basis, subtract_times};
+use mk_move::Basis;
 use std::alloc::Global;
 
 /// The work on a pair of places, which begins at the difference of its moves: the second minus the first. `Overflow`
@@ -20,9 +20,14 @@ pub fn critical(alloc: Global, basis: &Basis, i: u32, j: u32) -> Result<Work, St
     ensures refused { IfErr result (IsDifferenceRefused basis.now.moves (pair_of i j)) }
 {
     prove!(j < basis.len());
-    let second = basis.move_at(j);
-    match subtract_times(alloc, second, 1, basis.move_at(i), basis.grading()) {
-        Ok(remainder) => Ok(Work::new(alloc, i, j, remainder)),
-        Err(fault) => Err(Stop::of_fault(fault, None)),
+    let mut rest = basis.move_at(j).try_copy()?;
+    match rest.take_off(1, basis.move_at(i)) {
+        Ok(true) => {
+            rest.weigh(basis.grading());
+            prove!(rest.columns() == basis.grading().columns());
+            Ok(Work::new(alloc, i, j, Some(rest)))
+        }
+        Ok(false) => Ok(Work::new(alloc, i, j, None)),
+        Err(at) => Err(Stop::Overflow { by: None, at }),
     }
 }

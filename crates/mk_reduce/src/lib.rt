@@ -16,6 +16,3 @@ pub use remainder::{RemainderFault, Scratch, remainder_in};
 pub use step::Step;
 pub use stop::Stop;
 pub use work::Work;
-
-#[cfg(test)]
-mod tests;

@@ -1,5 +1,6 @@
-use mk_move::{OverflowAt, StepFault};
-use std::alloc::AllocError;
+use mk_model::NoMemory;
+use mk_move::OverflowAt;
+use std::alloc::AllocFailed;
 
 /// Why work on a pair stops: want of memory, or a column where an entry leaves the range, in the difference of the pair,
 /// or in a step by the move of a place.
@@ -9,28 +10,24 @@ pub enum Stop {
     Overflow { by: Option<u32>, at: OverflowAt },
 }
 
-impl From<AllocError> for Stop {
+impl From<NoMemory> for Stop {
     ghost use Rattle.std.specs.Prelude.{◌≡◌};
     ghost use Rattle.mk_reduce.specs.declared.stop.Stop.TheVariants.{Memory};
 
     ghost from_gives = { λ _ e. e ≡ Memory };
 
-    fn from(_e: AllocError) -> Stop {
+    fn from(_e: NoMemory) -> Stop {
         Stop::Memory
     }
 }
 
-impl Stop {
+impl<T: Drop> From<AllocFailed<T>> for Stop {
     ghost use Rattle.std.specs.Prelude.{◌≡◌};
-    ghost use Rattle.mk_reduce.specs.Stops.{stop_for};
+    ghost use Rattle.mk_reduce.specs.declared.stop.Stop.TheVariants.{Memory};
 
-    /// The fault of a difference, or of a step by the move of a place.
-    pub(crate) fn of_fault(fault: StepFault, by: Option<u32>) -> Stop
-        ensures { result ≡ stop_for fault by }
-    {
-        match fault {
-            StepFault::Memory => Stop::Memory,
-            StepFault::Overflow(at) => Stop::Overflow { by, at },
-        }
+    ghost from_gives = { λ _ e. e ≡ Memory };
+
+    fn from(_e: AllocFailed<T>) -> Stop {
+        Stop::Memory
     }
 }

@@ -1,6 +1,6 @@
 use crate::step::Step;
 use mk_move::Move;
-use std::alloc::{AllocError, Global};
+use std::alloc::Global;
 use std::marker::Model;
 
 /// The work on a pair of a basis: what is left of the difference of its moves, none for zero, the steps that led there,
@@ -24,7 +24,7 @@ impl Model for Work {
 }
 
 impl Work {
-    ghost use Rattle.std.specs.Prelude.{◌≡◌, [], ◌∷◌, ◌++◌, MatchOption, None, Some, OnOk, OnErr};
+    ghost use Rattle.std.specs.Prelude.{◌≡◌, [], MatchOption, None, Some};
     ghost use Rattle.mk_model.specs.CoreStates.{pair_of};
     ghost use Rattle.mk_reduce.specs.Works.{TheWork};
 
@@ -61,23 +61,6 @@ impl Work {
         ensures { MatchOption result (self.now.remainder ≡ None) (λ m. self.now.remainder ≡ Some m.now) }
     {
         self.remainder.as_ref()
-    }
-
-    /// Sets by how many of the first moves it has been reduced.
-    pub(crate) fn set_front(&mut self, front: u32)
-        ensures { self.new ≡ record self.old { front = front } }
-    {
-        self.front = front;
-    }
-
-    /// Puts a step to the trace, and keeps what it leaves. It is unchanged where there is no memory.
-    pub(crate) fn follow(&mut self, step: Step, left: Option<Move>) -> Result<(), AllocError>
-        ensures ok { OnOk result (self.new ≡ record self.old { remainder = left; trace = self.old.trace ++ step ∷ [] }) }
-        ensures err { OnErr result (self.new ≡ self.old) }
-    {
-        self.trace.push(step)?;
-        self.remainder = left;
-        Ok(())
     }
 
     /// What is left of the difference, and none for zero.

@@ -9,6 +9,3 @@ mod turning;
 
 pub use saturation::Saturation;
 pub use start::start_basis;
-
-#[cfg(test)]
-mod tests;

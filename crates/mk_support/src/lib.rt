@@ -9,6 +9,3 @@ mod node;
 mod support_tree;
 
 pub use support_tree::SupportTree;
-
-#[cfg(test)]
-mod tests;

@@ -6,8 +6,6 @@ mod numbers;
 mod options;
 mod parser;
 mod request;
-#[cfg(test)]
-mod tests;
 
 pub use language::{read_words, wants_one};
 pub use request::{ProjectName, Request, Sizes, Task, UsageFault};

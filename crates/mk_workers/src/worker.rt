@@ -164,9 +164,10 @@ impl Worker {
         if tried >= MOST_TRIES {
             return Stage::Ready;
         }
+        // The pair of the second place with a third from the first place on is claimed after this one, so it is hardly settled.
         match chain_candidates(self.seat.basis(), i, j, from) {
-            Some(k) => self.try_third(shared, from, tried, k),
-            None => Stage::Ready,
+            Some(k) if k < i => self.try_third(shared, from, tried, k),
+            _ => Stage::Ready,
         }
     }
 

@@ -1,16 +1,6 @@
-use Rattle.std.proofs.Common.{rules, ℕ, get_or, sym, w64, ◌∙◌}
-use mir.Val.{Fits}
-use Rattle.mk_move.specs.MoveLists.{vectors_of}
-use Rattle.mk_move.proofs.LeadMasks.{not_dividing_by_masks}
-use Rattle.mk_core.proofs.NeededMoves.{divides_is, not_made, not_dividing, dividing_before, dividing_behind}
+use Rattle.std.proofs.Common.{sym, ◌∙◌}
+use Rattle.mk_core.proofs.NeededMoves.{divides_is, not_dividing, dividing_before, dividing_behind}
 use Rattle.mk_core.proofs.dropping.makes_redundant.Goals as goal
-
-pub returns-then-masks-other-ne0 : goal.returns-then-masks-other-ne0
-returns-then-masks-other-ne0 c =
-    let masks = c.lead_masks-masks in
-    let fits : (n : ℕ) → Fits w64 (get_or masks.result.now n 0) = search rules in
-    not_made (vectors_of c.args.basis.now.moves) c.args.other c.args.place
-    (not_dividing_by_masks c.args.basis.now masks.result.now c.args.other c.args.place masks.ensures.kept masks.ensures.masks c.requires.other c.requires.place fits c.if-masks-other-ne0.true)
 
 pub returns-then-other-place : goal.returns-then-other-place
 returns-then-other-place c =

@@ -1,34 +1,39 @@
-use Rattle.std.proofs.Common.{length, arith, sym, ◌∙◌, ap, subst, pos, Ok}
-use Rattle.mk_move.specs.Steps.{TakesOff}
-use Rattle.mk_model.proofs.VectorAlgebra.{lengths}
+use Rattle.std.proofs.Common.{◌≡◌, Bool, true, false, Ok, Some, None, List, length, ℤ, pos, slice_get, ap, sym, ◌∙◌, subst}
+use Rattle.mk_model.specs.Vectors.{zeros}
+use Rattle.mk_move.specs.Moves.{Weighed}
+use Rattle.mk_move.specs.InPlace.{TakesOffInPlace}
 use Rattle.mk_reduce.specs.Works.{WorkOf}
-use Rattle.mk_reduce.specs.Stops.{IsDifferenceRefused}
-use Rattle.mk_model.specs.CoreStates.{pair_of}
-use Rattle.mk_reduce.proofs.Beginnings.{begun, not_begun, rest_is, rest_graded, rest_kept}
+use Rattle.mk_reduce.proofs.Beginnings.{begun, not_begun}
+use Rattle.mk_reduce.proofs.Remainders.{difference_unweighed, rest_weighed, with_weight}
 use Rattle.mk_reduce.proofs.critical_pair.critical.Goals as goal
 
-pub subtract_times-requires-clause-columns : goal.subtract_times-requires-clause-columns
-subtract_times-requires-clause-columns c = c.move_at-second.ensures.belongs.columns ∙ c.len.ensures.kept.columns ∙ sym (ap length c.grading.ensures)
+pub returns-in-Ok-true-clause-work : goal.returns-in-Ok-true-clause-work
+returns-in-Ok-true-clause-work c =
+    let basis = c.args.basis.now in
+    let a = c.move_at-2.result.now in
+    let b = c.in_ok-rest.rest in
+    let left = c.take_off.new.self in
+    let given = c.weigh.new.self in
+    let second : slice_get basis.moves c.args.j ≡ Some b = c.move_at.ensures.value ∙ ap Some (sym c.in_ok-rest.ensures) in
+    let taken : TakesOffInPlace b (pos 1) a.entries (Ok true) left = subst (λ (t : Bool). TakesOffInPlace b (pos 1) a.entries (Ok t) left) c.in-Ok-true.field-0-test c.in-Ok-true.ensures.taken in
+    let weighed = c.weigh.ensures ∙ ap (λ (w : List ℤ). with_weight w left) c.grading.ensures in
+    let unweighed = difference_unweighed basis c.len.ensures.kept c.args.i c.args.j a b c.move_at-2.ensures.value second c.move_at-2.ensures.belongs left taken in
+    subst (λ work. WorkOf work basis) (sym c.new.ensures)
+    (begun basis c.args.i c.args.j a b (Some given) c.requires.ordered c.move_at-2.ensures.value second (ap (λ (m : Weighed). m.entries) (weighed) ∙ ap (λ (m : Weighed). m.entries) taken)
+    (rest_weighed basis.grading left given unweighed weighed) c.columns.ensures.kept)
 
-pub subtract_times-requires-clause-as_many : goal.subtract_times-requires-clause-as_many
-subtract_times-requires-clause-as_many c = c.move_at.ensures.belongs.columns ∙ c.len.ensures.kept.columns ∙ sym (ap length c.grading.ensures)
-
-pub returns-in-Ok-clause-work : goal.returns-in-Ok-clause-work
-returns-in-Ok-clause-work c =
-    let a = c.move_at.result.now in
-    let b = c.move_at-second.result.now in
-    let w = c.args.basis.now.grading in
-    let given : TakesOff b.entries (pos 1) a.entries c.grading.result.now (Ok c.in-Ok.remainder) = c.in-Ok.ensures in
-    let taken = subst (λ v. TakesOff b.entries (pos 1) a.entries v (Ok c.in-Ok.remainder)) c.grading.ensures given in
-    let of_a = c.move_at.ensures.belongs.columns ∙ c.len.ensures.kept.columns in
-    let of_b = c.move_at-second.ensures.belongs.columns ∙ c.len.ensures.kept.columns in
-    subst (λ work. WorkOf work c.args.basis.now) (sym c.new.ensures)
-    (begun c.args.basis.now c.args.i c.args.j a b c.in-Ok.remainder c.requires.ordered c.move_at.ensures.value c.move_at-second.ensures.value
-    (rest_is b.entries a.entries w _ c.in-Ok.remainder of_b taken)
-    (rest_graded b.entries a.entries w _ c.in-Ok.remainder (omega (arith, lengths, of_a, of_b)) taken)
-    (rest_kept b.entries a.entries w _ c.in-Ok.remainder taken))
+pub returns-in-Ok-false-clause-work : goal.returns-in-Ok-false-clause-work
+returns-in-Ok-false-clause-work c =
+    let basis = c.args.basis.now in
+    let a = c.move_at-2.result.now in
+    let b = c.in_ok-rest.rest in
+    let left = c.take_off.new.self in
+    let second : slice_get basis.moves c.args.j ≡ Some b = c.move_at.ensures.value ∙ ap Some (sym c.in_ok-rest.ensures) in
+    let none : TakesOffInPlace b (pos 1) a.entries (Ok false) left = subst (λ (t : Bool). TakesOffInPlace b (pos 1) a.entries (Ok t) left) c.in-Ok-false.field-0-test c.in-Ok-false.ensures.taken in
+    let columns = ap (λ (m : Weighed). length m.entries) c.in_ok-rest.ensures ∙ c.move_at.ensures.belongs.columns ∙ c.len.ensures.kept.columns in
+    subst (λ work. WorkOf work basis) (sym c.new-in-Ok-false.ensures)
+    (begun basis c.args.i c.args.j a b None c.requires.ordered c.move_at-2.ensures.value second (sym (none.1 ∙ ap zeros columns)) tt tt)
 
 pub returns-in-Err-clause-refused : goal.returns-in-Err-clause-refused
 returns-in-Err-clause-refused c =
-    subst (IsDifferenceRefused c.args.basis.now.moves (pair_of c.args.i c.args.j)) (sym c.of_fault.ensures)
-    (not_begun c.args.basis.now.moves c.args.i c.args.j c.move_at.result.now c.move_at-second.result.now c.in-Err.fault c.move_at.ensures.value c.move_at-second.ensures.value c.in-Err.ensures)
+    not_begun c.args.basis.now.moves c.args.i c.args.j c.move_at-2.result.now c.in_ok-rest.rest c.in-Err.at c.move_at-2.ensures.value (c.move_at.ensures.value ∙ ap Some (sym c.in_ok-rest.ensures)) c.in-Err.ensures.taken.1

@@ -1,7 +1,7 @@
 use Rattle.std.proofs.Common.{◌≡◌, length, sym, subst, All, List, ℤ}
 use Rattle.mk_model.specs.Reductions.{Divides}
-use Rattle.mk_model.specs.Vectors.{positive_part, negative_part}
-use Rattle.mk_reduce.proofs.NextSteps.{lead_columns, normal}
+use Rattle.mk_move.specs.Sides.{part_of}
+use Rattle.mk_reduce.proofs.NextSteps.{lead_columns, normal_on}
 use Rattle.mk_reduce.proofs.reduction.next_step.Goals as goal
 
 pub find-requires : goal.find-requires
@@ -14,6 +14,6 @@ find-requires-2 g c =
 
 pub returns-in_err-place-clause-none : goal.returns-in_err-place-clause-none
 returns-in_err-place-clause-none g c =
-    let plus = subst (All (λ (x : List ℤ). ¬ (Divides x (positive_part c.args.rest.now.entries)))) c.requires.leads c.in_default.ensures.none in
-    let minus = subst (All (λ (x : List ℤ). ¬ (Divides x (negative_part c.args.rest.now.entries)))) c.requires.leads c.in_err-place.ensures.none in
-    rw c.from_residual.ensures (normal c.args.basis.now.moves c.args.rest.now c.columns.ensures.kept plus minus)
+    let first = subst (All (λ (x : List ℤ). ¬ (Divides x (part_of c.likely_sides-first.result.0 c.args.rest.now.entries)))) c.requires.leads c.in_default.ensures.none in
+    let second = subst (All (λ (x : List ℤ). ¬ (Divides x (part_of c.likely_sides-first.result.1 c.args.rest.now.entries)))) c.requires.leads c.in_err-place.ensures.none in
+    rw c.from_residual.ensures (normal_on c.args.basis.now.moves c.args.rest.now c.likely_sides-first.result.0 c.likely_sides-first.result.1 c.columns.ensures.kept c.likely_sides-first.ensures first second)

@@ -1,21 +1,45 @@
-use Rattle.std.proofs.Common.{subst, sym}
-use Rattle.mk_reduce.specs.Works.{Advances, IsStepMore}
-use Rattle.mk_reduce.proofs.Falls.{work_falls}
-use Rattle.mk_reduce.proofs.MoreSteps.{with_front}
-use Rattle.mk_reduce.proofs.Reducing.{IsReducing, reducing_begins, reducing_goes_on}
+use Rattle.std.proofs.Common.{Bool, true, false, Ok, Some, List, ℤ, subst, sym, ap, ◌∙◌}
+use Rattle.mk_reduce.specs.Works.{TheWork, WorkOf}
+use Rattle.mk_reduce.specs.Stops.{IsStepRefused}
+use Rattle.mk_reduce.specs.Traces.{ReducesWithTrace}
+use Rattle.mk_reduce.specs.contracts.work.Work.{the_view}
+use Rattle.mk_reduce.proofs.Remainders.{with_weight}
+use Rattle.mk_reduce.proofs.Traces.{ended_at_some, ended_at_none, stopped, stop_is}
 use Rattle.mk_reduce.proofs.reduction.reduce.Goals as goal
 
-pub loop-stop-init : goal.loop-stop-init
-loop-stop-init g c =
-    subst (IsReducing c.args.basis.now c.args.work.now) (sym c.set_front.ensures)
-    (subst (λ n. IsReducing c.args.basis.now c.args.work.now (with_front n c.args.work.now)) (sym c.len.ensures.value) (reducing_begins c.args.basis.now c.args.work.now c.requires.work))
+pub returns-in-Ok-true-clause-work : goal.returns-in-Ok-true-clause-work
+returns-in-Ok-true-clause-work g c =
+    let basis = c.args.basis.now in
+    let began = the_view c.work.inside in
+    let left = c.reduce_with_trace.new.rest in
+    let trace = c.reduce_with_trace.new.trace.items in
+    let ends : ReducesWithTrace basis c.in-Some.rest.entries began.trace (Ok true) left trace =
+    subst (λ (b : Bool). ReducesWithTrace basis c.in-Some.rest.entries began.trace (Ok b) left trace) c.in-Ok-true.field-0-test c.in-Ok-true.ensures in
+    ended_at_some basis began (subst (λ (w : TheWork). WorkOf w basis) (sym c.work.view_is) c.requires.work) c.in-Some.rest c.in-Some.is left c.weigh.new.self trace ends.0
+    (c.weigh.ensures ∙ ap (λ (w : List ℤ). with_weight w left) c.grading.ensures) c.len-work-inside.result c.len-work-inside.ensures.value c.columns.ensures.kept
 
-pub loop-stop-smaller : goal.loop-stop-smaller
-loop-stop-smaller g c =
-    let more : IsStepMore c.args.basis.now c.loop-stop.work c.advance.new.work = subst (Advances c.args.basis.now c.loop-stop.work c.advance.new.work) c.in-Ok-true.field-0-test c.in-Ok-true.ensures.advances in
-    work_falls c.args.basis.now c.len.ensures.kept c.loop-stop.work c.advance.new.work c.loop-stop.invariant.of_basis.rest more
+pub returns-in-Ok-false-clause-work : goal.returns-in-Ok-false-clause-work
+returns-in-Ok-false-clause-work g c =
+    let basis = c.args.basis.now in
+    let began = the_view c.work.inside in
+    let trace = c.reduce_with_trace.new.trace.items in
+    let ends : ReducesWithTrace basis c.in-Some.rest.entries began.trace (Ok false) c.reduce_with_trace.new.rest trace =
+    subst (λ (b : Bool). ReducesWithTrace basis c.in-Some.rest.entries began.trace (Ok b) c.reduce_with_trace.new.rest trace) c.in-Ok-false.field-0-test c.in-Ok-false.ensures in
+    ended_at_none basis began (subst (λ (w : TheWork). WorkOf w basis) (sym c.work.view_is) c.requires.work) c.in-Some.rest c.in-Some.is c.len-work-inside.result trace c.len-work-inside.ensures.value ends
 
-pub loop-stop-preserved : goal.loop-stop-preserved
-loop-stop-preserved g c =
-    let more : IsStepMore c.args.basis.now c.loop-stop.work c.advance.new.work = subst (Advances c.args.basis.now c.loop-stop.work c.advance.new.work) c.in-Ok-true.field-0-test c.in-Ok-true.ensures.advances in
-    reducing_goes_on c.args.basis.now c.args.work.now c.loop-stop.work c.advance.new.work c.loop-stop.invariant more
+pub returns-in-Err-clause-work : goal.returns-in-Err-clause-work
+returns-in-Err-clause-work g c =
+    let basis = c.args.basis.now in
+    let began = the_view c.work.inside in
+    let left = c.reduce_with_trace.new.rest in
+    stopped basis began (subst (λ (w : TheWork). WorkOf w basis) (sym c.work.view_is) c.requires.work) c.in-Some.rest c.in-Some.is left c.weigh-in-Err.new.self c.reduce_with_trace.new.trace.items c.in-Err.ensures.0
+    (c.weigh-in-Err.ensures ∙ ap (λ (w : List ℤ). with_weight w left) c.grading-in-Err.ensures) c.columns-in-Err.ensures.kept
+
+pub returns-in-Err-clause-stop : goal.returns-in-Err-clause-stop
+returns-in-Err-clause-stop g c =
+    let basis = c.args.basis.now in
+    let began = the_view c.work.inside in
+    let left = c.reduce_with_trace.new.rest in
+    subst (λ (w : TheWork). IsStepRefused basis.moves w.pair (Some c.weigh-in-Err.new.self) c.in-Err.stop) c.work.view_is
+    (stop_is basis began (subst (λ (w : TheWork). WorkOf w basis) (sym c.work.view_is) c.requires.work) c.in-Some.rest c.in-Some.is left c.weigh-in-Err.new.self c.reduce_with_trace.new.trace.items c.in-Err.ensures.0
+    (c.weigh-in-Err.ensures ∙ ap (λ (w : List ℤ). with_weight w left) c.grading-in-Err.ensures) c.in-Err.stop c.in-Err.ensures.1)

@@ -1,7 +1,6 @@
 use Rattle.std.proofs.Common.{Bool, true, false, Ok, pos, subst}
 use Rattle.mk_model.specs.CoreStates.{pair_of}
 use Rattle.mk_move.specs.InPlace.{TakesOffInPlace}
-use Rattle.mk_move.specs.declared.steps.StepFault.TheVariants.{Overflow}
 use Rattle.mk_reduce.proofs.Beginnings.{not_begun}
 use Rattle.mk_reduce.proofs.Remainders.{difference_unweighed, difference_begins, difference_zero}
 use Rattle.mk_reduce.proofs.remainder.difference_left.Goals as goal
@@ -32,5 +31,5 @@ pub returns-in-Err : goal.returns-in-Err
 returns-in-Err g c =
     let a = c.move_at.result.now in
     let b = c.args.rest.now in
-    let refused = not_begun c.args.basis.now.moves c.args.i c.args.j a b (Overflow c.in-Err.at) c.move_at.ensures.value c.requires.second c.in-Err.ensures.taken.1 in
+    let refused = not_begun c.args.basis.now.moves c.args.i c.args.j a b c.in-Err.at c.move_at.ensures.value c.requires.second c.in-Err.ensures.taken.1 in
     refused.1

@@ -1,6 +1,5 @@
-use Rattle.std.proofs.Common.{◌≡◌, ◌≤◌, List, All, length, arith, rules, sym, ap, ◌∙◌, subst, IsTrue, ℤ, neg_ℤ, w64}
+use Rattle.std.proofs.Common.{◌≡◌, ◌≢◌, ◌≤◌, List, All, length, arith, rules, sym, ap, ◌∙◌, subst, IsTrue, false, ℤ, neg_ℤ}
 use mir.Syntax.{w128}
-use mir.Val.{Fits}
 use Rattle.std.specs.List.{refill}
 use Rattle.std.specs.Int.RustNames.{bit_or}
 use Rattle.std.proofs.lemmas.Int.{to_z-of_z}
@@ -9,11 +8,11 @@ use Rattle.mk_move.specs.Moves.{Weighed, IsMoveKept}
 use Rattle.mk_move.specs.Masks.{AreMasks}
 use Rattle.mk_move.specs.Steps.{minus_times}
 use Rattle.mk_move.specs.InPlace.{IsWide, AreBits}
-use Rattle.mk_move.proofs.Takings.{bits_of, zero_masks, some_masks, kept_row, kept_back, negative_read, All-wide_difference}
+use Rattle.mk_move.proofs.Takings.{bits_of, kept_row, kept_back, negative_read, All-wide_difference}
+use Rattle.mk_move.proofs.Entries.{as_entry}
+use Rattle.mk_move.proofs.Multiples.{some_left}
 use Rattle.mk_move.proofs.moves.Move.take_off_by_bits.Goals as goal
-use Rattle.mk_move.proofs.moves.Move.take_off_by_bits.Goals.{After-take_off_at-taken, After-take_off_at, After-as_mut_slice-row, else-taken-via-then-taken+else-taken-ne0, else-taken-via-else-taken}
-use Rattle.std.proofs.lemmas.Bool.{false≢true}
-use Rattle.mk_model.proofs.VectorAlgebra.{lengths}
+use Rattle.mk_move.proofs.moves.Move.take_off_by_bits.Goals.{After-take_off_at-taken, After-take_off_at, After-as_mut_slice-row}
 
 as_many : (c : After-as_mut_slice-row) → length c.self.inside.entries.items ≡ length c.v.inside.entries.items
 as_many c = ap (λ (m : Weighed). length m.entries) c.self.view_is ∙ sym c.requires.columns ∙ sym (ap (λ (m : Weighed). length m.entries) c.v.view_is)
@@ -39,15 +38,21 @@ pub invariant_of-self : goal.invariant_of-self
 invariant_of-self c =
     let at = (goal.at.invariant_of-self c).After-take_off_at-taken in
     let was = (goal.at.invariant_of-self c).After-as_mut_slice-row in
-    let plus : Fits w64 c.take_off_at-taken.result.plus = search rules in
-    let minus : Fits w64 c.take_off_at-taken.result.minus = search rules in
+    let not_multiple : minus_times c.self.inside.entries.items c.args.times c.v.inside.entries.items ≢ zeros (length c.self.inside.entries.items) =
+    λ e. no (c.if-is_multiple.ensures.1 (rw (← c.self.view_is, ← c.v.view_is) (zero_read c.self.inside.entries.items c.v.inside.entries.items e))) in
     let in_range : IsTrue c.take_off_at-taken.result.in_range = search rules in
     let before : All IsEntry c.as_mut_slice-row.result.now = subst (All IsEntry) (sym c.as_mut_slice-row.ensures.value) c.self.invariant.0.entries in
     kept_row c.self.inside.entries.items c.v.inside.entries.items c.take_off_at-taken.new.row c.args.times c.self.inside.weight c.take_off_at-taken.result.plus c.take_off_at-taken.result.minus
     (as_many was) c.self.invariant.0.columns (row_is at)
     (c.take_off_at-taken.ensures.range in_range before)
-    (some_masks c.take_off_at-taken.new.row c.take_off_at-taken.result.plus c.take_off_at-taken.result.minus plus minus c.take_off_at-taken.ensures.masks c.if-taken-ne0.true)
+    (some_left c.self.inside.entries.items c.v.inside.entries.items c.take_off_at-taken.new.row c.args.times (as_many was) (row_is at) not_multiple)
     c.take_off_at-taken.ensures.masks
+  where
+    no : IsTrue false → ⊥
+    no t = search rules
+
+    zero_read : (x y : List ℤ) → minus_times x c.args.times y ≡ zeros (length x) → minus_times x (as_entry c.args.times) y ≡ zeros (length x)
+    zero_read x y e = ap (λ (z : ℤ). minus_times x z y) (to_z-of_z w128 c.args.times c.ranges.times) ∙ e
 
 pub take_off_at-requires-clause-left : goal.take_off_at-requires-clause-left
 take_off_at-requires-clause-left c =
@@ -72,20 +77,7 @@ invariant_of-self-2 c =
     let back = back_is (goal.at.invariant_of-self-2 c).After-take_off_at (as_many (goal.at.invariant_of-self-2 c).After-as_mut_slice-row) (row_is (goal.at.invariant_of-self-2 c).After-take_off_at-taken) in
     subst (λ (r : List ℤ). IsMoveKept (record { entries = r; weight = c.self.inside.weight }) × AreMasks r c.self.inside.plus c.self.inside.minus) (sym back) c.self.invariant
 
-pub returns-then-taken-2 : goal.returns-then-taken-2
-returns-then-taken-2 c =
-    let back = back_is (goal.at.returns-then-taken-2 c).After-take_off_at (as_many (goal.at.returns-then-taken-2 c).After-as_mut_slice-row) (row_is (goal.at.returns-then-taken-2 c).After-take_off_at-taken) in
-    let was = (goal.at.returns-then-taken-2 c).After-take_off_at-taken in
-    let none : bit_or c.take_off_at-taken.result.plus c.take_off_at-taken.result.minus ≡ 0 =
-    elim c.else-taken.branch [
-      | else-taken-via-then-taken+else-taken-ne0 w ↦ w.if-taken-ne0.false
-      | else-taken-via-else-taken w ↦ absurd (false≢true (sym w.if-taken.false ∙ c.if-taken-2.true))
-    ] in
-    let as_many : length c.take_off_at-taken.new.row ≡ length c.self.inside.entries.items = ap length (row_is was) ∙ omega (arith, lengths, as_many (goal.at.returns-then-taken-2 c).After-as_mut_slice-row) in
-    let zero : minus_times c.args.self.now.entries c.args.times c.args.v.now.entries ≡ zeros (length c.args.self.now.entries) = rw (← c.self.view_is, ← c.v.view_is) (sym (row_is was) ∙ zero_masks c.take_off_at-taken.new.row c.take_off_at-taken.result.plus c.take_off_at-taken.result.minus c.take_off_at-taken.ensures.masks none ∙ ap zeros as_many) in
-    (ap (λ (r : List ℤ). record { entries = r; weight = c.self.inside.weight }) back ∙ c.self.view_is, zero)
-
-pub returns-else-taken-2 : goal.returns-else-taken-2
-returns-else-taken-2 c =
-    let back = back_is (goal.at.returns-else-taken-2 c).After-take_off_at (as_many (goal.at.returns-else-taken-2 c).After-as_mut_slice-row) (row_is (goal.at.returns-else-taken-2 c).After-take_off_at-taken) in
+pub returns : goal.returns
+returns c =
+    let back = back_is (goal.at.returns c).After-take_off_at (as_many (goal.at.returns c).After-as_mut_slice-row) (row_is (goal.at.returns c).After-take_off_at-taken) in
     ap (λ (r : List ℤ). record { entries = r; weight = c.self.inside.weight }) back ∙ c.self.view_is

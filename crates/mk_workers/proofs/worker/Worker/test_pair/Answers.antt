@@ -46,8 +46,8 @@ try_third-requires-clause-third c =
     let (pair, claim) = c.requires.stage in
     has_third c.args.self.now.seat pair i j c.basis-2.result.now claim c.claimed_places-i.ensures c.basis-2.ensures.value c.args.from c.in-Some.k c.in-Some.ensures.found
 
-pub returns-in-None : goal.returns-in-None
-returns-in-None c =
+pub returns-in_default : goal.returns-in_default
+returns-in_default c =
     let (i, j) = c.claimed_places-i.result in
     let (pair, claim) = c.requires.stage in
     stays c.args.self.now.seat c.args.self.now.finder Ready c.requires.leads

@@ -1,0 +1,10 @@
+use Rattle.std.proofs.Common.{◌≡◌, length}
+use Rattle.mk_ledger.specs.DisjointPairs.{SettlesDisjoint, IsOpenRow}
+use Rattle.mk_ledger.proofs.ledger.Ledger.settle_disjoint.Given as goal
+
+abbrev pub invariant-loop-i : goal.invariant-loop-i
+invariant-loop-i l = record {
+  settles : SettlesDisjoint (length l.fn.self.basis.grading) l.fn.self.basis.priority l.fn.self.state l.worker l.self.state;
+  basis : l.self.basis ≡ l.fn.self.basis;
+  row : IsOpenRow l.self.state l.i l.j l.end;
+}

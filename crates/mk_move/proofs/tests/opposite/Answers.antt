@@ -1,6 +1,0 @@
-use Rattle.std.proofs.Common.{sym}
-use Rattle.mk_move.proofs.Belongings.{BelongsTo-of_row}
-use Rattle.mk_move.proofs.tests.opposite.Goals as goal
-
-pub returns : goal.returns
-returns g c = BelongsTo-of_row _ c.args.grading.now c.args.list.now c.unwrap.result (sym c.requires.list) (rw c.unwrap.ensures at c.in_ok-found.ensures)

@@ -1,10 +1,11 @@
-ghost use Rattle.std.specs.Prelude.{◌<◌, length, IfOk};
-ghost use Rattle.mk_model.specs.CoreStates.{pair_of};
+ghost use Rattle.std.specs.Prelude.{◌≡◌, ◌<◌, ℕ, length, None, IfOk};
+ghost use Rattle.mk_model.specs.CoreStates.{claim_of, pair_of};
 ghost use Rattle.mk_reduce.specs.Remainders.{IsNormalRest};
 
 use crate::shown::{assert_moves, start_of};
 use mk_core::{
-    Completed, Job, JournalEntry, Kind, Phase, Stopped, complete_alone, finder_of, finish_alone,
+    Completed, Job, Journal, JournalEntry, Kind, Phase, Stopped, complete_alone, finder_of,
+    finish_alone,
 };
 use mk_ledger::{Claim, Halt, Ledger, PlaceFault};
 use mk_move::{Basis, Move};
@@ -52,8 +53,58 @@ fn ending_of(rt: &impl Abort, outcome: Result<Completed, Stopped>) -> (&'static 
     }
 }
 
-// The completion of two moves of the twisted cubic, along the list of column 1, within a budget and a limit of moves: how it ends,
-// with how many moves and entries. A ledger of two workers that nobody has claimed from goes on as a job does.
+// A ledger on the moves in a text, along the list of a column or the standard list, that nobody has claimed from.
+pub(crate) fn ledger_of(
+    rt: &(impl Abort + AllocGlobal),
+    text: &str,
+    first: Option<u32>,
+    budget: u64,
+    limit: u32,
+    workers: u32,
+) -> Result<Ledger, Fail>
+    ensures { IfOk result (λ ledger. (worker : ℕ) → claim_of ledger.state worker ≡ None) }
+{
+    let start = start_of(rt, text, first)?;
+    assert!(rt; start.len() <= limit);
+    assert!(rt; limit <= 65_536);
+    assert!(rt; workers >= 1 && workers <= 64);
+    Ok(Ledger::new(rt.alloc(), start, budget, limit, workers)?)
+}
+
+// The completion of two moves of the twisted cubic, along the list of column 1, within a budget and a limit of moves: of a job, or of a
+// ledger of two workers.
+fn completion(
+    rt: &(impl Abort + AllocGlobal),
+    budget: u64,
+    limit: u32,
+    is_ledger: bool,
+) -> Result<Result<Completed, Stopped>, Fail> {
+    if is_ledger {
+        let ledger = ledger_of(rt, MOVES[0], Some(1), budget, limit, 2)?;
+        return Ok(finish_alone(rt.alloc(), ledger));
+    }
+    let start = start_of(rt, MOVES[0], Some(1))?;
+    assert!(rt; start.len() <= limit);
+    assert!(rt; limit <= 65_536);
+    let job = Job {
+        start,
+        budget,
+        basis_limit: limit,
+    };
+    Ok(complete_alone(rt.alloc(), job))
+}
+
+// The journal has so many entries, which are those of the completion of the twisted cubic.
+fn assert_entries(rt: &impl Abort, journal: &Journal, count: u64) {
+    assert_eq!(rt; journal.len(), count);
+    for n in 0..journal.len() {
+        assert!(rt; n < 3);
+        assert_eq!(rt; journal.entry_at(n), ENTRIES[n as usize]);
+    }
+}
+
+// A completion within a budget and a limit of moves: how it ends, with how many moves and entries. A ledger that nobody has claimed from
+// goes on as a job does.
 #[test]
 fn completions_end(rt: HostRuntime) -> Result<(), Fail> {
     let rows = [
@@ -63,31 +114,12 @@ fn completions_end(rt: HostRuntime) -> Result<(), Fail> {
     ];
     for (budget, limit, wanted, moves, count) in rows {
         for is_ledger in [false, true] {
-            let start = start_of(&rt, MOVES[0], Some(1))?;
-            assert!(rt; start.len() <= limit);
-            assert!(rt; limit <= 65_536);
-            let outcome = if is_ledger {
-                finish_alone(
-                    rt.alloc(),
-                    Ledger::new(rt.alloc(), start, budget, limit, 2)?,
-                )
-            } else {
-                let job = Job {
-                    start,
-                    budget,
-                    basis_limit: limit,
-                };
-                complete_alone(rt.alloc(), job)
-            };
+            let outcome = completion(&rt, budget, limit, is_ledger)?;
             let (ending, phase) = ending_of(&rt, outcome);
             assert_eq!(rt; ending, wanted);
             assert_eq!(rt; phase.start_len, 2);
             assert_moves(&rt, &phase.basis, moves)?;
-            assert_eq!(rt; phase.journal.len(), count);
-            assert!(rt; count <= 3);
-            for n in 0..count {
-                assert_eq!(rt; phase.journal.entry_at(n), ENTRIES[n as usize]);
-            }
+            assert_entries(&rt, &phase.journal, count);
         }
     }
     Ok(())
@@ -151,10 +183,7 @@ fn a_ledger_answers_two_workers(rt: HostRuntime) -> Result<(), Fail> {
         (3, 2, MOVES[0], stopped, stopped),
     ];
     for (budget, limit, moves, second, first) in rows {
-        let start = start_of(&rt, MOVES[0], Some(1))?;
-        assert!(rt; start.len() <= limit);
-        assert!(rt; limit <= 65_536);
-        let mut ledger = Ledger::new(rt.alloc(), start, budget, limit, 2)?;
+        let mut ledger = ledger_of(&rt, MOVES[0], Some(1), budget, limit, 2)?;
         let claimed = Claim::Claimed { i: 0, j: 1 };
         assert_eq!(rt; answer_for(&rt, &mut ledger, 0), claimed);
         let taken = Claim::NotYet {

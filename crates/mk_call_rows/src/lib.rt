@@ -1,4 +1,4 @@
-//! The calls below a run on small lattices, each with what it must give. The tests are all there is.
+//! The calls on pairs, ledgers and completions on small lattices, each with what it must give. The tests are all there is.
 #![tactic(auto)]
 
 #[cfg(test)]
@@ -9,7 +9,5 @@ mod pairs;
 mod shown;
 #[cfg(test)]
 mod skips;
-#[cfg(test)]
-mod solutions;
 #[cfg(test)]
 mod turns;

@@ -1,8 +1,7 @@
 use mk_files::{Bounds, Table, read_table};
 use mk_model::ENTRY_MAX;
-use mk_move::{Basis, Grading, Move, MoveList, Priority};
+use mk_move::{Basis, Grading, Move, Priority};
 use mk_saturate::start_basis;
-use mk_solve::MinimalList;
 use std::alloc::AllocGlobal;
 use std::process::Abort;
 use std::test::Fail;
@@ -63,21 +62,6 @@ pub(crate) fn assert_moves(
     assert_eq!(rt; basis.len(), wanted.rows(), "{text}");
     for place in 0..basis.len() {
         assert_row(rt, basis.move_at(place), &wanted, place);
-    }
-    Ok(())
-}
-
-// The list has the moves in a text and no other.
-pub(crate) fn assert_list(
-    rt: &(impl Abort + AllocGlobal),
-    list: &MinimalList,
-    text: &str,
-) -> Result<(), Fail> {
-    let wanted = table_of(rt, text)?;
-    assert_eq!(rt; list.columns(), wanted.columns(), "{text}");
-    assert_eq!(rt; list.len(), wanted.rows(), "{text}");
-    for place in 0..list.len() {
-        assert_row(rt, list.move_at(place), &wanted, place);
     }
     Ok(())
 }

@@ -1,7 +1,7 @@
-use crate::completions::{ENTRIES, MOVES, answer_for, place_claim};
-use crate::shown::{assert_moves, start_of};
+use crate::completions::{ENTRIES, MOVES, answer_for, ledger_of, place_claim};
+use crate::shown::assert_moves;
 use mk_criteria::{chain_candidates, find_chain, is_chain};
-use mk_ledger::{ChainFault, Claim, Ledger};
+use mk_ledger::{ChainFault, Claim, JournalEntry, Ledger};
 use mk_move::{chain_divides, coprime_leads};
 use std::alloc::AllocGlobal;
 use std::process::Abort;
@@ -11,10 +11,9 @@ pub(crate) const OVERLAPPING: &str = "3 4\n1 1 -1 -1\n1 -1 1 -1\n-1 1 1 -1\n";
 
 // A ledger of three moves whose leads overlap, for three workers.
 fn three_workers(rt: &(impl Abort + AllocGlobal)) -> Result<Ledger, Fail> {
-    let start = start_of(rt, OVERLAPPING, None)?;
-    assert_moves(rt, &start, OVERLAPPING)?;
-    assert!(rt; start.len() <= 65_536);
-    Ok(Ledger::new(rt.alloc(), start, 100, 65_536, 3)?)
+    let ledger = ledger_of(rt, OVERLAPPING, None, 100, 65_536, 3)?;
+    assert_moves(rt, ledger.basis(), OVERLAPPING)?;
+    Ok(ledger)
 }
 
 // The worker, whose claim the third move may settle, settles it by that move.
@@ -44,18 +43,36 @@ fn a_pair_that_is_claimed_settles_no_other(rt: HostRuntime) -> Result<(), Fail> 
     Ok(())
 }
 
+// The least third move through which the pair of two places is settled.
+fn third_move_for(rt: &impl Abort, ledger: &Ledger, i: u32, j: u32) -> Option<u32> {
+    assert!(rt; i < j && j < ledger.basis().len());
+    find_chain(ledger.basis(), ledger, i, j)
+}
+
+// The least move from a place on that may settle the pair of two places.
+fn candidate_for(rt: &impl Abort, ledger: &Ledger, i: u32, j: u32, from: u32) -> Option<u32> {
+    assert!(rt; i < j && j < ledger.basis().len());
+    chain_candidates(ledger.basis(), i, j, from)
+}
+
+// Whether the pair of two places is settled through the move of a place.
+fn is_settled_through(rt: &impl Abort, ledger: &Ledger, i: u32, j: u32, k: u32) -> bool {
+    let count = ledger.basis().len();
+    assert!(rt; i < j && j < count && k < count);
+    is_chain(ledger.basis(), ledger, i, j, k)
+}
+
 #[test]
 fn third_moves_are_found(rt: HostRuntime) -> Result<(), Fail> {
     let ledger = three_workers(&rt)?;
-    let basis = ledger.basis();
-    assert_eq!(rt; basis.len(), 3);
-    assert_eq!(rt; find_chain(basis, &ledger, 0, 1), None);
-    assert!(rt; !is_chain(basis, &ledger, 0, 1, 2));
+    assert_eq!(rt; third_move_for(&rt, &ledger, 0, 1), None);
+    assert!(rt; !is_settled_through(&rt, &ledger, 0, 1, 2));
     assert_eq!(rt; ledger.settled_end(0), 2);
     assert_eq!(rt; ledger.settled_end(2), 0);
-    assert_eq!(rt; chain_candidates(basis, 0, 1, 0), Some(2));
-    assert_eq!(rt; chain_candidates(basis, 1, 2, 0), Some(0));
-    assert_eq!(rt; chain_candidates(basis, 1, 2, 1), None);
+    let rows = [(0, 1, 0, Some(2)), (1, 2, 0, Some(0)), (1, 2, 1, None)];
+    for (i, j, from, wanted) in rows {
+        assert_eq!(rt; candidate_for(&rt, &ledger, i, j, from), wanted);
+    }
     Ok(())
 }
 
@@ -65,8 +82,7 @@ fn third_move_of(rt: &impl Abort, ledger: &Ledger, worker: u32) -> Option<u32> {
     let Some((i, j)) = ledger.claim_of(worker) else {
         panic!(rt; "no claim");
     };
-    assert!(rt; i < j && j < ledger.basis().len());
-    find_chain(ledger.basis(), ledger, i, j)
+    third_move_for(rt, ledger, i, j)
 }
 
 // The first pair is settled through the third move once both of its pairs are settled by moves, and the last through the first
@@ -103,11 +119,16 @@ fn settle_apart(rt: &impl Abort, ledger: &mut Ledger, worker: u32) -> Result<(),
     Ok(())
 }
 
+// The last entry of the journal.
+fn last_entry(rt: &impl Abort, ledger: &Ledger) -> JournalEntry {
+    let count = ledger.settled_count();
+    assert!(rt; count > 0);
+    ledger.entry_at(count - 1)
+}
+
 #[test]
 fn a_pair_of_disjoint_leads_is_settled(rt: HostRuntime) -> Result<(), Fail> {
-    let start = start_of(&rt, MOVES[0], Some(1))?;
-    assert!(rt; start.len() <= 65_536);
-    let mut ledger = Ledger::new(rt.alloc(), start, 3, 65_536, 2)?;
+    let mut ledger = ledger_of(&rt, MOVES[0], Some(1), 3, 65_536, 2)?;
     let first = Claim::Claimed { i: 0, j: 1 };
     assert_eq!(rt; answer_for(&rt, &mut ledger, 0), first);
     let placed = place_claim(&rt, &mut ledger, 0)?;
@@ -117,8 +138,8 @@ fn a_pair_of_disjoint_leads_is_settled(rt: HostRuntime) -> Result<(), Fail> {
     let last = Claim::Claimed { i: 1, j: 2 };
     assert_eq!(rt; answer_for(&rt, &mut ledger, 0), last);
     settle_apart(&rt, &mut ledger, 0)?;
+    assert_eq!(rt; last_entry(&rt, &ledger), ENTRIES[2]);
     assert_eq!(rt; ledger.settled_count(), 2);
-    assert_eq!(rt; ledger.entry_at(1), ENTRIES[2]);
     let claimed = Claim::NotYet {
         worker: 1,
         i: 0,

@@ -42,9 +42,13 @@ fn driven(
         budget: 100,
         basis_limit: 65_536,
     };
-    let ledger = drive(rt.alloc(), job, 2, &schedule)?;
-    assert_eq!(rt; ledger.workers(), 2);
-    Ok(ledger)
+    Ok(drive(rt.alloc(), job, 2, &schedule)?)
+}
+
+// The claim of a worker.
+fn claim_held(rt: &impl Abort, ledger: &Ledger, worker: u32) -> Option<(u32, u32)> {
+    assert!(rt; worker < ledger.workers());
+    ledger.claim_of(worker)
 }
 
 // Without turns nothing is claimed; an idle worker's turn is its claim; and a worker that has one copies the basis.
@@ -65,9 +69,8 @@ fn first_turns_are_claims(rt: HostRuntime) -> Result<(), Fail> {
     for (text, column, workers, first, second, made) in rows {
         let ledger = driven(&rt, text, column, workers)?;
         assert_moves(&rt, ledger.basis(), text)?;
-        assert!(rt; ledger.workers() == 2);
-        assert_eq!(rt; ledger.claim_of(0), first);
-        assert_eq!(rt; ledger.claim_of(1), second);
+        assert_eq!(rt; claim_held(&rt, &ledger, 0), first);
+        assert_eq!(rt; claim_held(&rt, &ledger, 1), second);
         assert_eq!(rt; ledger.claims_made(), made);
         assert_eq!(rt; ledger.settled_count(), 0);
     }

@@ -11,11 +11,6 @@ use std::alloc::AllocGlobal;
 use std::process::Abort;
 use std::test::Fail;
 
-pub(crate) const CURVE: &str = "2 3\n2 -1 0\n1 1 -1\n";
-
-// Its reduced basis, of weights 2, 3 and 4 where the grading is 1 2 3.
-pub(crate) const CURVE_REDUCED: &str = "3 3\n2 -1 0\n1 1 -1\n-1 2 -1\n";
-
 // A table, and a grading for which each row has product 0.
 #[derive(Debug, Drop)]
 pub(crate) struct Graded {
@@ -74,7 +69,7 @@ pub(crate) fn graded_by(
 }
 
 // The move has the entries of a row.
-pub(crate) fn assert_row(rt: &impl Abort, m: &Move, row: &[Entry]) {
+fn assert_row(rt: &impl Abort, m: &Move, row: &[Entry]) {
     assert_eq!(rt; m.columns() as usize, row.len());
     for (column, entry) in row.iter().enumerate() {
         assert_eq!(rt; m.entry(column as u32), *entry);

@@ -1,7 +1,7 @@
 #!/usr/bin/env bash
 # Compares `markov` with 1, 2 and 4 workers, side by side in one run: each number of workers five times in turn on the same file, and
 # the best time counts, start of the process included. The files are made models, which are made here, and the lattices of bench/long,
-# whose moves have a hundred columns. For each a line has the seconds, and the ratios to those of
+# whose moves have a hundred columns and more. For each a line has the seconds, and the ratios to those of
 # one worker. The answers are compared: they are the same whatever the number of workers.
 # Usage: bench/workers.sh MARKOV [MODEL or FILE.lat ..]
 

@@ -1,9 +1,9 @@
 #!/usr/bin/env bash
-# Runs the built program with one allocation refused a run, for each number of an allocation that the run makes: on the twisted cubic, and on
-# the tables of three rows and three columns with their margins. Each run ends with status 6, with its line and the files as before, or with
-# status 0 and the answer; where the words of the command line find no memory nothing is said. The allocator that refuses is put before
-# the C library's, so a C compiler is needed. The runs are by one worker unless another number is given; which allocation has a number
-# depends then on who is first.
+# Runs the built program with one allocation refused a run, for each number of an allocation that the run makes: on the twisted cubic, on
+# the tables of three rows and three columns with their margins, and on a curve, whose first phase several workers share. Each run ends
+# with status 6, with its line and the files as before, or with status 0 and the answer; where the words of the command line find no
+# memory nothing is said. The allocator that refuses is put before the C library's, so a C compiler is needed. The runs are by one worker
+# unless another number is given; which allocation has a number depends then on who is first.
 # Usage: tests/memory.sh PROGRAM [WORKERS]
 
 [ $# -ge 1 ] && [ -f "$1" ] || { echo "usage: $0 PROGRAM [WORKERS]" >&2; exit 2; }
@@ -122,5 +122,6 @@ refuse_each() {
 
 refuse_each cubic
 refuse_each margins
+refuse_each curve
 echo "$failed failed"
 [ "$failed" -eq 0 ]

@@ -14,19 +14,17 @@ cp "$1" "$program" && chmod 755 "$program"
 cd "$work" || exit 2
 export LC_ALL=C
 
-# The lattices: the examples, three rows each two of whose leads overlap, curves, and made models.
-for name in cubic curve margins threeway cube; do
+# The lattices: three examples, three rows each two of whose leads overlap, a made model, and five of mixed entries, most of whose leads
+# overlap, so that workers share their first phase, and of that with 70 columns later ones.
+for name in curve threeway cube; do
     mkdir "$name" && cp "$here/../examples/$name/"* "$name/" && rm -f "$name"/*.mar
     for file in "$name"/*; do mv "$file" "$name/P.${file##*.}"; done
 done
-project() {
-    mkdir "$1" && printf "$2" >"$1/P.lat"
-}
-project overlapping '3 4\n1 1 -1 -1\n1 -1 1 -1\n1 -1 -1 1\n'
-project quartic '3 5\n1 -2 1 0 0\n0 1 -2 1 0\n0 0 1 -2 1\n'
-project doubled '2 3\n2 -2 0\n0 2 -2\n'
-for model in 4x4 3x3x3; do
-    mkdir "$model" && lattice "$model" >"$model/P.lat"
+mkdir overlapping && printf '3 4\n1 1 -1 -1\n1 -1 1 -1\n1 -1 -1 1\n' >overlapping/P.lat
+mkdir 3x3x3 && lattice 3x3x3 >3x3x3/P.lat
+for file in "$here/mixed/"*.lat; do
+    name=$(basename "$file" .lat)
+    mkdir "$name" && cp "$file" "$name/P.lat"
 done
 
 passed=0

@@ -9,10 +9,12 @@ use Rattle.mk_model.specs.Lattices.{Lattice}
 
 module _ {lattice : Lattice} {upto : Option ℕ} where
   -- an essential move up to the bound stands in each answer
-  pub answer_has_essential : {moves : List (List ℤ)} → IsAnswer lattice upto moves → (m : List ℤ) → IsEssentialUpTo lattice upto m → Contains moves m
+  pub answer_has_essential : {moves : List (List ℤ)} → IsAnswer lattice upto moves → (m : List ℤ) → IsEssentialUpTo lattice upto m →
+      Contains moves m
   answer_has_essential a m e = ⊎_elim (λ c. c) (λ j. absurd (e.essential.not_joined j)) (a.complete m e.essential.move e.light)
 
-  pub answer_members_essential : {moves : List (List ℤ)} → IsAnswer lattice upto moves → (m : List ℤ) → Contains moves m → IsEssentialUpTo lattice upto m
+  pub answer_members_essential : {moves : List (List ℤ)} → IsAnswer lattice upto moves → (m : List ℤ) → Contains moves m →
+      IsEssentialUpTo lattice upto m
   answer_members_essential {moves} a m c = All-contains (IsEssentialUpTo lattice upto) moves m a.essential c
 
   pub lists_essential : {moves : List (List ℤ)} → IsAnswer lattice upto moves → ListsEssentialMoves lattice upto moves
@@ -21,9 +23,11 @@ module _ {lattice : Lattice} {upto : Option ℕ} where
     members = λ m. (answer_members_essential a m, answer_has_essential a m);
   }
 
-  pub one_list : {moves others : List (List ℤ)} → ListsEssentialMoves lattice upto moves → ListsEssentialMoves lattice upto others → others ≡ moves
+  pub one_list : {moves others : List (List ℤ)} → ListsEssentialMoves lattice upto moves → ListsEssentialMoves lattice upto others →
+      others ≡ moves
   one_list {moves} {others} a b =
-      same_from_members (ComesBefore lattice.columns lattice.grading) (ComesBefore-asymmetric lattice.columns lattice.grading) others moves b.ascending a.ascending
+      same_from_members (ComesBefore lattice.columns lattice.grading)
+      (ComesBefore-asymmetric lattice.columns lattice.grading) others moves b.ascending a.ascending
       (λ z c. (a.members z).1 ((b.members z).0 c))
       (λ z c. (b.members z).1 ((a.members z).0 c))
 

@@ -1,5 +1,6 @@
 -- Steps down by moves that are joined below in pairs: any two joined vectors step down to one.
-use Rattle.std.proofs.Common.{◌≡◌, ◌⊎◌, inl, inr, ℕ, zero, suc, ◌^◌, ◌<◌, List, length, get_or, ℤ, Contains, arith, ap, refl, sym, ◌∙◌, subst}
+use Rattle.std.proofs.Common.{◌≡◌, ◌⊎◌, inl, inr, ℕ, zero, suc, ◌^◌, ◌<◌, List, length, get_or, ℤ, Contains, arith, ap, refl, sym, ◌∙◌}
+use Rattle.std.proofs.Common.{subst}
 use Rattle.std.proofs.lemmas.List.{get_or_default}
 use Rattle.std.proofs.lemmas.List.Elements.{All-contains}
 use borrow.Author.Differences.{up}
@@ -17,7 +18,8 @@ use Rattle.mk_model.proofs.WalkLaws.{walk_from, walk_to, walk_append, walk_weake
 use Rattle.mk_model.proofs.LatticeLaws.{InLattice-columns}
 use Rattle.mk_model.proofs.Fibres.{step_weight}
 use Rattle.mk_model.proofs.Translation.{walk_translate, walk_turned, walk_keeps, subtract-exchange_last}
-use Rattle.mk_model.proofs.Divisors.{lcm-comm, Divides-lcm_first, Divides-lcm_second, lcm_divides, IsPoint-lcm, IsPoint-lower, IsPoint-quotient, lead_divides}
+use Rattle.mk_model.proofs.Divisors.{lcm-comm, Divides-lcm_first, Divides-lcm_second, lcm_divides, IsPoint-lcm, IsPoint-lower}
+use Rattle.mk_model.proofs.Divisors.{IsPoint-quotient, lead_divides}
 use Rattle.mk_model.proofs.Ranks.{rank, rank_limit, rank_below, IsBounded-weight}
 
 pub reaches_append : {next : List ℤ → List ℤ → Type 0} {x y z : List ℤ} → Reaches next x y → Reaches next y z → Reaches next x z
@@ -25,11 +27,13 @@ reaches_append here s = s
 reaches_append (go n r) s = go n (reaches_append r s)
 
 -- steps by a relation that keeps a place make a walk in it
-pub descent_walk : {moves : List (List ℤ)} {place : List ℤ → Type 0} → ((x y : List ℤ) → place x → IsDescent moves x y → place y) → {x y : List ℤ} → place x → Reaches (IsDescent moves) x y → Walk (Members moves) place x y
+pub descent_walk : {moves : List (List ℤ)} {place : List ℤ → Type 0} → ((x y : List ℤ) → place x → IsDescent moves x y → place y) →
+    {x y : List ℤ} → place x → Reaches (IsDescent moves) x y → Walk (Members moves) place x y
 descent_walk f p here = stay p
 descent_walk f p (go {x = x} {y = y} d r) = step p (d.move, d.member, inr d.below) (descent_walk f (f x y p d) r)
 
-module _ {n : ℕ} {rows : List (List ℤ)} {w : List ℤ} {p : List ℕ} {moves : List (List ℤ)} (o : AreOrientedMoves (lattice_of n rows w) p moves) where
+module _ {n : ℕ} {rows : List (List ℤ)} {w : List ℤ} {p : List ℕ} {moves : List (List ℤ)}
+    (o : AreOrientedMoves (lattice_of n rows w) p moves) where
   pub member_columns : (m : List ℤ) → Contains moves m → length m ≡ n
   member_columns m h = InLattice-columns n rows m o.grading.rows_columns (All-contains (InLattice n rows) moves m o.in_lattice h)
 
@@ -45,11 +49,11 @@ module _ {n : ℕ} {rows : List (List ℤ)} {w : List ℤ} {p : List ℕ} {moves
   descent_below {x} {y} q d =
       rw d.below (IsBelow-subtract p x d.move (All-contains (IsOriented p) moves d.move o.oriented d.member))
 
-  member_step_weight : {x y : List ℤ} → IsPoint n x → IsStep (Members moves) x y → weight w y ≡ weight w x
+  pub member_step_weight : {x y : List ℤ} → IsPoint n x → IsStep (Members moves) x y → weight w y ≡ weight w x
   member_step_weight {x} {y} q (m, h, s) = step_weight o.grading x y m q (All-contains (InLattice n rows) moves m o.in_lattice h) s
 
   -- a step between points goes down one way or the other
-  step_descends : {x y : List ℤ} → IsPoint n x → IsPoint n y → IsStep (Members moves) x y → IsDescent moves x y ⊎ IsDescent moves y x
+  pub step_descends : {x y : List ℤ} → IsPoint n x → IsPoint n y → IsStep (Members moves) x y → IsDescent moves x y ⊎ IsDescent moves y x
   step_descends {x} {y} q r (m, h, inr e) = inl (record { move = m; member = h; divides = lead_divides x m q (rw e at r); below = e })
   step_descends {x} {y} q r (m, h, inl e) =
       let f : subtract y m ≡ x = rw e (subtract-add x m (omega (arith, member_columns m h, q.columns))) in
@@ -93,10 +97,12 @@ module _ {n : ℕ} {rows : List (List ℤ)} {w : List ℤ} {p : List ℕ} {moves
       go : (i < j) ⊎ (j < i) ⊎ (i ≡ j) → JoinedBelow n p moves a b
       go (inl c) = rw (e, g) at (pairs i j a c k)
       go (inr (inl c)) = JoinedBelow-swap b a (rw (g, e) at (pairs j i a c l))
-      go (inr (inr c)) = let d : a ≡ b = sym e ∙ ap (λ k. get_or moves k a) c ∙ g in subst (JoinedBelow n p moves a) d (JoinedBelow-same a (i, l, e))
+      go (inr (inr c)) = let d : a ≡ b = sym e ∙ ap (λ k. get_or moves k a) c ∙ g in
+          subst (JoinedBelow n p moves a) d (JoinedBelow-same a (i, l, e))
 
   -- the walk of a pair, moved up to a multiple of its least common multiple
-  pub joined_under : (a b x : List ℤ) → Contains moves a → Contains moves b → IsPoint n x → Divides (lcm (lead a) (lead b)) x → JoinedBelow n p moves a b → Walk (Members moves) (IsPointBelow n p x) (subtract x a) (subtract x b)
+  pub joined_under : (a b x : List ℤ) → Contains moves a → Contains moves b → IsPoint n x → Divides (lcm (lead a) (lead b)) x →
+      JoinedBelow n p moves a b → Walk (Members moves) (IsPointBelow n p x) (subtract x a) (subtract x b)
   joined_under a b x h k q d j = rw (← first, ← second) (walk_translate t shift j)
     where
       l : List ℤ
@@ -124,13 +130,17 @@ module _ {n : ℕ} {rows : List (List ℤ)} {w : List ℤ} {p : List ℕ} {moves
       shift z h = record { point = IsPoint-add h.point rest; below = subst (IsBelow p (add z t)) whole (IsBelow-add p z l t h.below) }
 
   -- two steps down from one point, joined below it
-  peak : EveryPairJoined n p moves → {x a b : List ℤ} → IsPoint n x → IsDescent moves x a → IsDescent moves x b → Walk (Members moves) (IsPointBelow n p x) a b
+  peak : EveryPairJoined n p moves → {x a b : List ℤ} → IsPoint n x → IsDescent moves x a → IsDescent moves x b →
+      Walk (Members moves) (IsPointBelow n p x) a b
   peak pairs {x} {a} {b} q d e =
-      rw (d.below, e.below) (joined_under d.move e.move x d.member e.member q (lcm_divides d.divides e.divides) (joined_pair pairs d.move e.move d.member e.member))
+      rw (d.below, e.below) (joined_under d.move e.move x d.member e.member q (lcm_divides d.divides e.divides)
+      (joined_pair pairs d.move e.move d.member e.member))
 
   -- ---- ranks
-  lower_rank : (W : ℤ) (x z : List ℤ) → IsPoint n x → weight w x ≡ W → IsPointBelow n p x z → weight w z ≡ W → rank (up W) p z < rank (up W) p x
-  lower_rank W x z q e b f = rank_below (up W) p z x (rw f at (IsBounded-weight o.grading b.point)) (rw e at (IsBounded-weight o.grading q)) b.below
+  lower_rank : (W : ℤ) (x z : List ℤ) → IsPoint n x → weight w x ≡ W → IsPointBelow n p x z → weight w z ≡ W →
+      rank (up W) p z < rank (up W) p x
+  lower_rank W x z q e b f = rank_below (up W) p z x (rw f at (IsBounded-weight o.grading b.point))
+      (rw e at (IsBounded-weight o.grading q)) b.below
 
   pub descent_weight : {x y : List ℤ} → IsPoint n x → IsDescent moves x y → weight w y ≡ weight w x
   descent_weight q d = member_step_weight q (d.move, d.member, inr d.below)
@@ -150,10 +160,15 @@ module _ {n : ℕ} {rows : List (List ℤ)} {w : List ℤ} {p : List ℕ} {moves
 
   vertex_descent : (W : ℤ) (t : ℕ) (x y : List ℤ) → IsVertex W t x → IsDescent moves x y → IsVertex W t y
   vertex_descent W t x y v d =
-      record { point = descent_point v.point d; weighs = descent_weight v.point d ∙ v.weighs; ranked = omega (arith, v.ranked, descent_rank W x y v.point v.weighs d) }
+      record {
+        point = descent_point v.point d;
+        weighs = descent_weight v.point d ∙ v.weighs;
+        ranked = omega (arith, v.ranked, descent_rank W x y v.point v.weighs d);
+      }
 
   -- from a walk's second vertex on, two vectors have met
-  around : EveryPairJoined n p moves → (W : ℤ) (t : ℕ) → ((u v : List ℤ) → Walk (Members moves) (IsVertex W t) u v → Meet moves u v) → (u x v : List ℤ) → IsVertex W (suc t) x →
+  around : EveryPairJoined n p moves → (W : ℤ) (t : ℕ) → ((u v : List ℤ) → Walk (Members moves) (IsVertex W t) u v → Meet moves u v) →
+      (u x v : List ℤ) → IsVertex W (suc t) x →
       IsDescent moves u x ⊎ IsDescent moves x u → Meet moves x v → Meet moves u v
   around pairs W t ih u x v q (inl d) m = record { common = m.common; from_first = go d m.from_first; from_second = m.from_second }
   around pairs W t ih u x v q (inr d) m = over m.common m.from_first m.from_second
@@ -161,12 +176,14 @@ module _ {n : ℕ} {rows : List (List ℤ)} {w : List ℤ} {p : List ℕ} {moves
       over : (z : List ℤ) → Reaches (IsDescent moves) x z → Reaches (IsDescent moves) v z → Meet moves u v
       over z here s = record { common = u; from_first = here; from_second = reaches_append s (go d here) }
       over z (go {y = y} e r) s =
-          let near = walk_keeps (λ z. weight w z ≡ W) (λ a b h k f. member_step_weight h.point k ∙ f) (descent_weight q.point d ∙ q.weighs) (peak pairs q.point d e) in
+          let near = walk_keeps (λ z. weight w z ≡ W) (λ a b h k f. member_step_weight h.point k ∙ f) (descent_weight q.point d ∙ q.weighs)
+          (peak pairs q.point d e) in
           let first : Walk (Members moves) (IsVertex W t) u y = walk_weaker (λ m h. h) (λ z (h, f). vertex_below W t x z q h f) near in
           let below : Meet moves u z = ih u z (walk_append first (descent_walk (vertex_descent W t) (walk_to first) r)) in
           record { common = below.common; from_first = below.from_first; from_second = reaches_append s below.from_second }
 
-  climb : EveryPairJoined n p moves → (W : ℤ) (t : ℕ) → ((u v : List ℤ) → Walk (Members moves) (IsVertex W t) u v → Meet moves u v) → (u v : List ℤ) → Walk (Members moves) (IsVertex W (suc t)) u v → Meet moves u v
+  climb : EveryPairJoined n p moves → (W : ℤ) (t : ℕ) → ((u v : List ℤ) → Walk (Members moves) (IsVertex W t) u v → Meet moves u v) →
+      (u v : List ℤ) → Walk (Members moves) (IsVertex W (suc t)) u v → Meet moves u v
   climb pairs W t ih u v (stay q) = record { common = u; from_first = here; from_second = here }
   climb pairs W t ih u v (step {y = x} q s r) =
       around pairs W t ih u x v (walk_from r) (step_descends q.point (walk_from r).point s) (climb pairs W t ih x v r)

@@ -13,7 +13,9 @@ use Rattle.std.proofs.lemmas.Bool.{cases_lt, cases_Bool, both_ways}
 use Rattle.std.proofs.lemmas.Bool.Decides.{Decides-like, Decides-by_and}
 use Rattle.std.proofs.lemmas.List.{get_or_past, get_or_default}
 use Rattle.mk_model.specs.Saturation.{divides}
-use Rattle.mk_model.proofs.VectorAlgebra.{lengths, columns, same_vectors, length-combine, entry-combine, entry-positive_part, entry-subtract, positive_part-negate, negate-subtract}
+use Rattle.mk_model.proofs.VectorAlgebra.{lengths, columns, same_vectors, length-combine, entry-combine, entry-positive_part}
+use Rattle.mk_model.proofs.VectorAlgebra.{entry-subtract, positive_part-negate, negate-subtract}
+use Rattle.mk_model.proofs.Integers.{max_within}
 
 pub length-lcm : (x y : List ℤ) → length (lcm x y) ≡ max (length x) (length y)
 unfolding lcm
@@ -23,7 +25,8 @@ pub entry-lcm : (x y : List ℤ) (c : ℕ) → entry (lcm x y) c ≡ int_max (en
 unfolding lcm
 entry-lcm x y c = entry-combine int_max refl x y c
 
-pub lcm_at : (x y : List ℤ) (c : ℕ) → up (entry (lcm x y) c) + down (entry x c) + down (entry y c) ≡ down (entry (lcm x y) c) + max (up (entry x c) + down (entry y c)) (up (entry y c) + down (entry x c))
+pub lcm_at : (x y : List ℤ) (c : ℕ) → up (entry (lcm x y) c) + down (entry x c) + down (entry y c) ≡ down (entry (lcm x y) c) + max
+    (up (entry x c) + down (entry y c)) (up (entry y c) + down (entry x c))
 lcm_at x y c = simp entry-lcm (int_max_is (entry x c) (entry y c))
 
 pub lcm-comm : (x y : List ℤ) → lcm x y ≡ lcm y x
@@ -46,7 +49,10 @@ lcm_divides {x} {y} {z} h k = record { entries = λ c. omega (arith, ints, lcm_a
 
 pub IsPoint-lcm : {n : ℕ} {x y : List ℤ} → IsPoint n x → IsPoint n y → IsPoint n (lcm x y)
 IsPoint-lcm {n} {x} {y} p q =
-    record { columns = omega (arith, length-lcm, p.columns, q.columns); nonnegative = λ c. omega (arith, ints, lcm_at x y c, p.nonnegative c, q.nonnegative c) }
+    record {
+      columns = omega (arith, length-lcm, p.columns, q.columns);
+      nonnegative = λ c. omega (arith, ints, lcm_at x y c, p.nonnegative c, q.nonnegative c);
+    }
 
 -- what divides a point leaves a point
 pub IsPoint-quotient : {n : ℕ} {x y : List ℤ} → IsPoint n x → length y ≤ n → Divides y x → IsPoint n (subtract x y)
@@ -62,15 +68,15 @@ IsPoint-lower m p l h =
 pub lead_divides : {n : ℕ} (x m : List ℤ) → IsPoint n x → IsPoint n (subtract x m) → Divides (lead m) x
 lead_divides x m p q = record { entries = λ c. go c (p.nonnegative c) (q.nonnegative c) }
   where
-    clamp : (a b : ℤ) → pos 0 ≤ℤ b → a ≤ℤ b → int_max a (pos 0) ≤ℤ b
-    clamp a b h k = omega (arith, ints, clamps)
-
     go : (c : ℕ) → pos 0 ≤ℤ entry x c → pos 0 ≤ℤ entry (subtract x m) c → entry (lead m) c ≤ℤ entry x c
-    go c h k = simp entry-positive_part (clamp (entry m c) (entry x c) h (omega (arith, ints, columns)))
+    go c h k = simp entry-positive_part (max_within (entry m c) (entry x c) h (omega (arith, ints, columns)))
 
 -- the parts of the difference of two points divide them
 pub Divides-positive_part : {n : ℕ} {a b : List ℤ} → IsPoint n a → IsPoint n b → Divides (positive_part (subtract a b)) a
-Divides-positive_part {n} {a} {b} p q = record { entries = λ c. simp (entry-positive_part, entry-subtract) (clamp (entry a c) (entry b c) (p.nonnegative c) (q.nonnegative c)) }
+Divides-positive_part {n} {a} {b} p q = record {
+  entries = λ c. simp (entry-positive_part, entry-subtract)
+      (clamp (entry a c) (entry b c) (p.nonnegative c) (q.nonnegative c));
+}
   where
     clamp : (a b : ℤ) → pos 0 ≤ℤ a → pos 0 ≤ℤ b → int_max (a -ℤ b) (pos 0) ≤ℤ a
     clamp a b h k = omega (arith, ints, clamps)
@@ -85,12 +91,14 @@ Decides-int_le a b = ((λ e. grind (arith, ints)), (λ h. grind (arith, ints)))
 pub Decides-divides : (x y : List ℤ) → Decides (divides x y) (Divides x y)
 unfolding divides
 Decides-divides x y =
-    Decides-like (divides x y) there back (Decides-by_and (λ a. int_le a (pos 0)) (λ a. a ≤ℤ pos 0) (list_all (λ a. int_le a (pos 0))) (λ a. Decides-int_le a (pos 0)) refl (λ _ _. refl) (subtract x y))
+    Decides-like (divides x y) there back (Decides-by_and (λ a. int_le a (pos 0)) (λ a. a ≤ℤ pos 0) (list_all (λ a. int_le a (pos 0)))
+    (λ a. Decides-int_le a (pos 0)) refl (λ _ _. refl) (subtract x y))
   where
     there : All (λ a. a ≤ℤ pos 0) (subtract x y) → Divides x y
     there h = record { entries = λ c. at h c (cases_lt c (length (subtract x y))) }
       where
-        at : All (λ a. a ≤ℤ pos 0) (subtract x y) → (c : ℕ) → (c < length (subtract x y)) ⊎ (length (subtract x y) ≤ c) → entry x c ≤ℤ entry y c
+        at : All (λ a. a ≤ℤ pos 0) (subtract x y) → (c : ℕ) → (c < length (subtract x y)) ⊎ (length (subtract x y) ≤ c) →
+            entry x c ≤ℤ entry y c
         at h c (inl l) = omega (arith, ints, columns, h c (pos 0) l)
         at h c (inr l) =
             let f : entry x c ≡ pos 0 = get_or_past x c (pos 0) (omega (arith, lengths)) in

@@ -1,5 +1,6 @@
 -- Points of one fibre: what they share, and the moves that lead from one to the other.
-use Rattle.std.proofs.Common.{◌≡◌, ◌⊎◌, inl, inr, ℕ, ◌≤◌, min, List, [], ◌∷◌, length, ℤ, pos, negsuc, ◌≤ℤ◌, ◌<ℤ◌, arith, ap, sym, ◌∙◌, subst, ⊎_elim}
+use Rattle.std.proofs.Common.{◌≡◌, ◌⊎◌, inl, inr, ℕ, ◌≤◌, min, List, [], ◌∷◌, length, ℤ, pos, negsuc, ◌≤ℤ◌, ◌<ℤ◌, arith, ap, sym, ◌∙◌}
+use Rattle.std.proofs.Common.{subst, ⊎_elim}
 use Rattle.std.proofs.lemmas.Int.{ints, by_lt_z}
 use borrow.Author.Differences.{up, down}
 use Rattle.mk_model.specs.Vectors.{entry, zeros, add, subtract, positive_part, negative_part, weight, IsPoint}
@@ -8,7 +9,8 @@ use Rattle.mk_model.specs.Orders.{IsBelow, IsOriented, standard, lead, tail}
 use Rattle.mk_model.specs.Walks.{IsStep, Joined}
 use Rattle.mk_model.specs.Walks.Walk.{stay, step}
 use Rattle.mk_model.specs.Bases.{IsMove}
-use Rattle.mk_model.proofs.VectorAlgebra.{lengths, columns, same_vectors, weight-subtract, negate-subtract, weight-add, only_zeros, add-zeros}
+use Rattle.mk_model.proofs.VectorAlgebra.{lengths, columns, same_vectors, weight-subtract, negate-subtract, weight-add, only_zeros}
+use Rattle.mk_model.proofs.VectorAlgebra.{add-zeros}
 use Rattle.mk_model.proofs.OrderLaws.{IsBelow-total_standard}
 use Rattle.mk_model.proofs.WalkLaws.{walk_append, walk_back, one_step, walk_from, walk_to}
 use Rattle.mk_model.proofs.LatticeLaws.{InLattice-zeros, InLattice-add, InLattice-negate, InLattice-columns, InLattice-weight}
@@ -47,7 +49,8 @@ joined_by_parts {moves} {n} {x} {y} p q j =
     rw (positive_and_shared x y l, negative_and_shared x y l) at (joined_translate {moves = moves} (shared x y) (IsPoint-shared p q) j)
 
 -- each step replaced by a walk
-pub walk_replace : {moves others : List ℤ → Type 0} {n : ℕ} → ((x y : List ℤ) → IsPoint n x → IsPoint n y → IsStep moves x y → Joined n others x y) →
+pub walk_replace : {moves others : List ℤ → Type 0} {n : ℕ} → ((x y : List ℤ) → IsPoint n x → IsPoint n y → IsStep moves x y →
+    Joined n others x y) →
     {x y : List ℤ} → Joined n moves x y → Joined n others x y
 walk_replace f (stay p) = stay p
 walk_replace f (step {x = x} {y = y} p s r) = walk_append (f x y p (walk_from r) s) (walk_replace f r)
@@ -81,7 +84,15 @@ AreEnds m x y = ((x ≡ lead m) × (y ≡ tail m)) ⊎ ((x ≡ tail m) × (y ≡
 module _ {n : ℕ} {rows : List (List ℤ)} {w : List ℤ} (g : HasGrading (lattice_of n rows w)) where
   pub point_of_no_weight : (x : List ℤ) → IsPoint n x → weight w x ≤ℤ pos 0 → x ≡ zeros n
   point_of_no_weight x p h =
-      only_zeros x (λ c. omega (arith, ints, h, (IsBounded-weight g p).within c, p.nonnegative c, down_of_nonnegative (entry x c) (p.nonnegative c), weight_down g x p)) ∙ ap zeros p.columns
+      only_zeros x (λ c. omega (
+        arith,
+        ints,
+        h,
+        (IsBounded-weight g p).within c,
+        p.nonnegative c,
+        down_of_nonnegative (entry x c) (p.nonnegative c),
+        weight_down g x p,
+      )) ∙ ap zeros p.columns
 
   -- the lead of the difference of two points is lighter than the first, or they are its ends
   pub lead_of_difference : (x y : List ℤ) → IsPoint n x → IsPoint n y →
@@ -98,38 +109,55 @@ module _ {n : ℕ} {rows : List (List ℤ)} {w : List ℤ} (g : HasGrading (latt
 
       ends : shared x y ≡ zeros n → (x ≡ lead (subtract x y)) × (y ≡ tail (subtract x y))
       ends e = (
-        sym (positive_and_shared x y l) ∙ ap (add (lead (subtract x y))) e ∙ add-zeros (lead (subtract x y)) n (omega (arith, lengths, p.columns, q.columns)),
-        sym (negative_and_shared x y l) ∙ ap (add (tail (subtract x y))) e ∙ add-zeros (tail (subtract x y)) n (omega (arith, lengths, p.columns, q.columns)),
+        sym (positive_and_shared x y l) ∙ ap (add (lead (subtract x y))) e
+            ∙ add-zeros (lead (subtract x y)) n (omega (arith, lengths, p.columns, q.columns)),
+        sym (negative_and_shared x y l) ∙ ap (add (tail (subtract x y))) e
+            ∙ add-zeros (tail (subtract x y)) n (omega (arith, lengths, p.columns, q.columns)),
       )
 
   pub step_weight : (x y v : List ℤ) → IsPoint n x → InLattice n rows v → (y ≡ add x v) ⊎ (y ≡ subtract x v) → weight w y ≡ weight w x
   step_weight x y v p h (inl e) = omega (arith, ints, ap (weight w) e, weight-add w x v, InLattice-weight w n rows v g.rows_weight h)
   step_weight x y v p h (inr e) =
-      omega (arith, ints, ap (weight w) e, weight-subtract w x v (omega (arith, p.columns, InLattice-columns n rows v g.rows_columns h)), InLattice-weight w n rows v g.rows_weight h)
+      omega (
+        arith,
+        ints,
+        ap (weight w) e,
+        weight-subtract w x v (omega (arith, p.columns, InLattice-columns n rows v g.rows_columns h)),
+        InLattice-weight w n rows v g.rows_weight h,
+      )
 
   -- a step by a move that is lighter, or from one end of the move to the other
   pub ends_of_step : (x y v : List ℤ) → IsPoint n x → IsPoint n y → InLattice n rows v → (y ≡ add x v) ⊎ (y ≡ subtract x v) →
       (weight w (lead v) <ℤ weight w x) ⊎ AreEnds v x y
   ends_of_step x y v p q h (inl e) =
-      let d : subtract y x ≡ v = ap (λ u. subtract u x) e ∙ plus_less x v (omega (arith, p.columns, InLattice-columns n rows v g.rows_columns h)) in
+      let d : subtract y x ≡ v = ap (λ u. subtract u x) e ∙ plus_less x v
+      (omega (arith, p.columns, InLattice-columns n rows v g.rows_columns h)) in
       ⊎_elim (λ k. inl (omega (arith, ints, k, step_weight x y v p h (inl e))))
       (λ (a, b). inr (inr (b, a)))
       (rw d at (lead_of_difference y x q p))
   ends_of_step x y v p q h (inr e) =
-      let d : subtract x y ≡ v = ap (subtract x) e ∙ less_less x v (omega (arith, p.columns, InLattice-columns n rows v g.rows_columns h)) in
+      let d : subtract x y ≡ v = ap (subtract x) e ∙ less_less x v (omega (arith, p.columns, InLattice-columns n rows v g.rows_columns h))
+      in
       ⊎_elim inl (λ (a, b). inr (inl (a, b))) (rw d at (lead_of_difference x y p q))
 
   -- ---- the fibre of a point
   pub same_fibre_back : (x y : List ℤ) → InLattice n rows (subtract x y) → InLattice n rows (subtract y x)
   same_fibre_back x y h = subst (InLattice n rows) (negate-subtract x y) (InLattice-negate n rows (subtract x y) h)
 
-  pub same_fibre_append : (x y z : List ℤ) → IsPoint n x → IsPoint n y → IsPoint n z → InLattice n rows (subtract x y) → InLattice n rows (subtract y z) → InLattice n rows (subtract x z)
+  pub same_fibre_append : (x y z : List ℤ) → IsPoint n x → IsPoint n y → IsPoint n z → InLattice n rows (subtract x y) →
+      InLattice n rows (subtract y z) → InLattice n rows (subtract x z)
   same_fibre_append x y z p q r h k =
-      let e : add (subtract x y) (subtract y z) ≡ subtract x z = same_vectors _ _ (omega (arith, lengths, p.columns, q.columns, r.columns)) (λ c. omega (arith, ints, columns)) in
+      let e : add (subtract x y) (subtract y z) ≡ subtract x z = same_vectors _ _ (omega (arith, lengths, p.columns, q.columns, r.columns))
+      (λ c. omega (arith, ints, columns)) in
       subst (InLattice n rows) e (InLattice-add n rows (subtract x y) (subtract y z) h k)
 
   pub same_fibre_weight : (x y : List ℤ) → IsPoint n x → IsPoint n y → InLattice n rows (subtract x y) → weight w x ≡ weight w y
-  same_fibre_weight x y p q h = omega (arith, ints, weight-subtract w x y (omega (arith, p.columns, q.columns)), InLattice-weight w n rows (subtract x y) g.rows_weight h)
+  same_fibre_weight x y p q h = omega (
+    arith,
+    ints,
+    weight-subtract w x y (omega (arith, p.columns, q.columns)),
+    InLattice-weight w n rows (subtract x y) g.rows_weight h,
+  )
 
   -- the greater of two points of a fibre less the other is a move
   pub move_of_difference : (x y : List ℤ) → InLattice n rows (subtract x y) → IsBelow (standard n) y x → IsMove n rows (subtract x y)
@@ -147,15 +175,20 @@ module _ {n : ℕ} {rows : List (List ℤ)} {w : List ℤ} (g : HasGrading (latt
       let e : zeros n ≡ subtract x x = same_vectors _ _ (omega (arith, lengths, p.columns)) (λ c. omega (arith, ints, columns)) in
       subst (InLattice n rows) e (InLattice-zeros n rows g.rows_columns)
 
-  pub same_fibre_step : {moves : List ℤ → Type 0} → ((v : List ℤ) → moves v → InLattice n rows v) → (x y : List ℤ) → IsPoint n x → IsStep moves x y → InLattice n rows (subtract x y)
+  pub same_fibre_step : {moves : List ℤ → Type 0} → ((v : List ℤ) → moves v → InLattice n rows v) → (x y : List ℤ) → IsPoint n x →
+      IsStep moves x y → InLattice n rows (subtract x y)
   same_fibre_step inside x y p (v, a, inl e) =
-      let d : subtract y x ≡ v = ap (λ u. subtract u x) e ∙ plus_less x v (omega (arith, p.columns, InLattice-columns n rows v g.rows_columns (inside v a))) in
+      let d : subtract y x ≡ v = ap (λ u. subtract u x) e ∙ plus_less x v
+      (omega (arith, p.columns, InLattice-columns n rows v g.rows_columns (inside v a))) in
       same_fibre_back y x (subst (InLattice n rows) (sym d) (inside v a))
   same_fibre_step inside x y p (v, a, inr e) =
-      let d : subtract x y ≡ v = ap (subtract x) e ∙ less_less x v (omega (arith, p.columns, InLattice-columns n rows v g.rows_columns (inside v a))) in
+      let d : subtract x y ≡ v = ap (subtract x) e ∙ less_less x v (omega
+      (arith, p.columns, InLattice-columns n rows v g.rows_columns (inside v a))) in
       subst (InLattice n rows) (sym d) (inside v a)
 
-  pub same_fibre_of_walk : {moves : List ℤ → Type 0} → ((v : List ℤ) → moves v → InLattice n rows v) → {x y : List ℤ} → Joined n moves x y → InLattice n rows (subtract x y)
+  pub same_fibre_of_walk : {moves : List ℤ → Type 0} → ((v : List ℤ) → moves v → InLattice n rows v) → {x y : List ℤ} → Joined n moves x y →
+      InLattice n rows (subtract x y)
   same_fibre_of_walk {moves} inside (stay {x = x} p) = same_fibre_stay x p
   same_fibre_of_walk {moves} inside (step {x = x} {y = y} {z = z} p s r) =
-      same_fibre_append x y z p (walk_from r) (walk_to r) (same_fibre_step {moves = moves} inside x y p s) (same_fibre_of_walk {moves = moves} inside r)
+      same_fibre_append x y z p (walk_from r) (walk_to r) (same_fibre_step {moves = moves} inside x y p s)
+      (same_fibre_of_walk {moves = moves} inside r)

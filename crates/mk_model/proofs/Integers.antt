@@ -24,13 +24,35 @@ pub *ℤ-assoc : (k l a : ℤ) → (k *ℤ l) *ℤ a ≡ k *ℤ (l *ℤ a)
 *ℤ-assoc k l a =
     let (p, q) = product_is l a in
     let (r, s) = product_is k l in
-    omega (arith, ints, ap (λ z. up k * z) p, ap (λ z. down k * z) p, ap (λ z. up k * z) q, ap (λ z. down k * z) q, ap (λ z. z * up a) r, ap (λ z. z * down a) r, ap (λ z. z * up a) s, ap (λ z. z * down a) s)
+    omega (
+      arith,
+      ints,
+      ap (λ z. up k * z) p,
+      ap (λ z. down k * z) p,
+      ap (λ z. up k * z) q,
+      ap (λ z. down k * z) q,
+      ap (λ z. z * up a) r,
+      ap (λ z. z * down a) r,
+      ap (λ z. z * up a) s,
+      ap (λ z. z * down a) s,
+    )
 
 pub *ℤ-swap : (k l a : ℤ) → k *ℤ (l *ℤ a) ≡ l *ℤ (k *ℤ a)
 *ℤ-swap k l a =
     let (p, q) = product_is l a in
     let (r, s) = product_is k a in
-    omega (arith, ints, ap (λ z. up k * z) p, ap (λ z. down k * z) p, ap (λ z. up k * z) q, ap (λ z. down k * z) q, ap (λ z. up l * z) r, ap (λ z. down l * z) r, ap (λ z. up l * z) s, ap (λ z. down l * z) s)
+    omega (
+      arith,
+      ints,
+      ap (λ z. up k * z) p,
+      ap (λ z. down k * z) p,
+      ap (λ z. up k * z) q,
+      ap (λ z. down k * z) q,
+      ap (λ z. up l * z) r,
+      ap (λ z. down l * z) r,
+      ap (λ z. up l * z) s,
+      ap (λ z. down l * z) s,
+    )
 
 pub one-*ℤ : (a : ℤ) → pos 1 *ℤ a ≡ a
 one-*ℤ a = omega (arith, ints)
@@ -57,6 +79,12 @@ product_more k (negsuc a) h = absurd (omega (arith, ints))
 pub clamped : (a : ℤ) → (up (int_max a (pos 0)) ≡ up a) × (down (int_max a (pos 0)) ≡ 0)
 clamped (pos a) = let e : int_max (pos a) (pos 0) ≡ pos a = omega (arith, ints, clamps) in rw e (refl, refl)
 clamped (negsuc a) = (refl, refl)
+
+pub max_zero : (a : ℤ) → a ≤ℤ pos 0 → int_max a (pos 0) ≡ pos 0
+max_zero a h = omega (arith, ints, clamps)
+
+pub max_within : (a b : ℤ) → pos 0 ≤ℤ b → a ≤ℤ b → int_max a (pos 0) ≤ℤ b
+max_within a b h k = omega (arith, ints, clamps)
 
 -- a positive factor keeps the order, and is cancelled
 pub below_product : (k : ℕ) (a b : ℤ) → (pos (suc k) *ℤ a) <ℤ (pos (suc k) *ℤ b) → a <ℤ b

@@ -1,11 +1,14 @@
 -- Each event keeps a state legal.
-use Rattle.std.proofs.Common.{◌≡◌, ◌⊎◌, inl, inr, ℕ, zero, suc, ◌+◌, ◌<◌, List, [], ◌∷◌, ◌++◌, length, get_or, set, replicate, Option, None, Some, arith, ap, refl, sym, ◌∙◌, subst, ⊎_elim, length-append, length-set, ◌≤◌, ℤ}
+use Rattle.std.proofs.Common.{◌≡◌, ◌⊎◌, inl, inr, ℕ, zero, suc, ◌+◌, ◌<◌, List, [], ◌∷◌, ◌++◌, length, get_or, set, replicate, Option, None}
+use Rattle.std.proofs.Common.{Some, arith, ap, refl, sym, ◌∙◌, subst, ⊎_elim, length-append, length-set, ◌≤◌, ℤ}
 use Rattle.std.proofs.lemmas.Bool.{cases_eq, cases_lt}
 use Rattle.std.proofs.lemmas.Option.{none-some, same_Some}
 use Rattle.std.proofs.lemmas.List.{get_or-set_same, get_or-set_other, get_or_past, set_past, take-append-le, take_all, length-replicate}
-use Rattle.mk_model.specs.CoreStates.{Pair, Way, Settle, settle, Halt, CoreState, claim_of, halt_of, start_of, new_state, phase_state, IsPairOf, IsSettled, IsFree}
+use Rattle.mk_model.specs.CoreStates.{Pair, Way, Settle, settle, Halt, CoreState, claim_of, halt_of, start_of, new_state, phase_state}
+use Rattle.mk_model.specs.CoreStates.{IsPairOf, IsSettled, IsFree}
 use Rattle.mk_model.specs.CoreStates.Halt.{Overflow, Full, Memory}
-use Rattle.mk_model.specs.Events.{Event, IsClaim, IsSettling, IsHalting, given_up, first_of, with_entry, with_halt, IsHaltCause, Happens, HappenInTurn}
+use Rattle.mk_model.specs.Events.{Event, IsClaim, IsSettling, IsHalting, given_up, first_of, with_entry, with_halt, IsHaltCause, Happens}
+use Rattle.mk_model.specs.Events.{HappenInTurn}
 use Rattle.mk_model.specs.Events.Event.{Claims, Settles, Halts}
 use Rattle.mk_model.specs.Legal.{IsNext, Replays, claims_held, IsHaltKept, IsFirstHalted, IsLegal}
 use Rattle.mk_model.proofs.Journals.{settled_cases, replay_push, IsPairOf-append, IsPairOverflow-append, Grows, moves_grow}
@@ -18,10 +21,12 @@ module _ {X : Type 0} where
 
   pub cleared_here : (xs : List (Option X)) (i : ℕ) → get_or (set xs i None) i None ≡ None
   cleared_here xs i =
-      ⊎_elim (λ l. get_or-set_same xs i None None l) (λ l. ap (λ ys. get_or ys i None) (set_past xs i None l) ∙ get_or_past xs i None l) (cases_lt i (length xs))
+      ⊎_elim (λ l. get_or-set_same xs i None None l) (λ l. ap (λ ys. get_or ys i None) (set_past xs i None l) ∙ get_or_past xs i None l)
+      (cases_lt i (length xs))
 
   -- what is left once a place was cleared
-  pub cleared : (xs : List (Option X)) (i j : ℕ) (x : X) → get_or (set xs i None) j None ≡ Some x → (j ≡ i → ⊥) × (get_or xs j None ≡ Some x)
+  pub cleared : (xs : List (Option X)) (i j : ℕ) (x : X) → get_or (set xs i None) j None ≡ Some x → (j ≡ i → ⊥)
+      × (get_or xs j None ≡ Some x)
   cleared xs i j x e = go (cases_eq j i)
     where
       go : (j ≡ i) ⊎ (j ≡ i → ⊥) → (j ≡ i → ⊥) × (get_or xs j None ≡ Some x)
@@ -30,25 +35,33 @@ module _ {X : Type 0} where
 
   pub cleared_none : (xs : List (Option X)) (i j : ℕ) → get_or xs j None ≡ None → get_or (set xs i None) j None ≡ None
   cleared_none xs i j e =
-      ⊎_elim (λ f. ap (λ k. get_or (set xs i None) k None) f ∙ cleared_here xs i) (λ f. get_or-set_other xs i j None None f ∙ e) (cases_eq j i)
+      ⊎_elim (λ f. ap (λ k. get_or (set xs i None) k None) f ∙ cleared_here xs i) (λ f. get_or-set_other xs i j None None f ∙ e)
+      (cases_eq j i)
 
   -- what stands at a place once another was written
-  pub written : (xs : List (Option X)) (i j : ℕ) (x y : X) → i < length xs → get_or (set xs i (Some x)) j None ≡ Some y → ((j ≡ i) × (x ≡ y)) ⊎ ((j ≡ i → ⊥) × (get_or xs j None ≡ Some y))
+  pub written : (xs : List (Option X)) (i j : ℕ) (x y : X) → i < length xs → get_or (set xs i (Some x)) j None ≡ Some y →
+      ((j ≡ i) × (x ≡ y)) ⊎ ((j ≡ i → ⊥) × (get_or xs j None ≡ Some y))
   written xs i j x y l e = go (cases_eq j i)
     where
       go : (j ≡ i) ⊎ (j ≡ i → ⊥) → ((j ≡ i) × (x ≡ y)) ⊎ ((j ≡ i → ⊥) × (get_or xs j None ≡ Some y))
-      go (inl f) = inl (f, same_Some x y (sym (get_or-set_same xs i (Some x) None l) ∙ ap (λ k. get_or (set xs i (Some x)) k None) (sym f) ∙ e))
+      go (inl f) = inl (
+        f,
+        same_Some x y (sym (get_or-set_same xs i (Some x) None l) ∙ ap (λ k. get_or (set xs i (Some x)) k None) (sym f)
+            ∙ e),
+      )
       go (inr f) = inr (f, sym (get_or-set_other xs i j (Some x) None f) ∙ e)
 
 -- ---- how many claims are held
-held_cleared : (claims : List (Option Pair)) (i : ℕ) → claims_held claims ≡ claims_held (set claims i None) + given_up (get_or claims i None)
+held_cleared : (claims : List (Option Pair)) (i : ℕ) → claims_held claims ≡ claims_held (set claims i None) + given_up
+    (get_or claims i None)
 held_cleared [] i = refl
 held_cleared (None ∷ claims) zero = omega arith
 held_cleared (Some pair ∷ claims) zero = omega arith
 held_cleared (None ∷ claims) (suc i) = held_cleared claims i
 held_cleared (Some pair ∷ claims) (suc i) = omega (arith, held_cleared claims i)
 
-held_written : (claims : List (Option Pair)) (i : ℕ) (pair : Pair) → i < length claims → get_or claims i None ≡ None → claims_held (set claims i (Some pair)) ≡ suc (claims_held claims)
+held_written : (claims : List (Option Pair)) (i : ℕ) (pair : Pair) → i < length claims → get_or claims i None ≡ None →
+    claims_held (set claims i (Some pair)) ≡ suc (claims_held claims)
 held_written [] i pair l e = absurd (omega arith)
 held_written (None ∷ claims) zero pair l e = refl
 held_written (Some other ∷ claims) zero pair l e = absurd (none-some other (sym e))
@@ -70,7 +83,8 @@ module _ {n : ℕ} {priority : List ℕ} {state : CoreState} (legal : IsLegal n 
     basis_within = legal.basis_within;
     claims_by_workers = length-set state.claims worker (Some h.pair) ∙ legal.claims_by_workers;
     claims_unsettled = λ a q e. unsettled a q (written state.claims worker a h.pair q within e);
-    claims_differ = λ a b q e f. differ a b q (written state.claims worker a h.pair q within e) (written state.claims worker b h.pair q within f);
+    claims_differ = λ a b q e f. differ a b q (written state.claims worker a h.pair q within e)
+        (written state.claims worker b h.pair q within f);
     claims_counted = omega (arith, legal.claims_counted, held_written state.claims worker h.pair within h.no_claim);
     claims_within = omega (arith, h.within_budget);
     halts_by_workers = legal.halts_by_workers;
@@ -82,11 +96,14 @@ module _ {n : ℕ} {priority : List ℕ} {state : CoreState} (legal : IsLegal n 
       within : worker < length state.claims
       within = omega (arith, legal.claims_by_workers, h.worker_within)
 
-      unsettled : (a : ℕ) (q : Pair) → ((a ≡ worker) × (h.pair ≡ q)) ⊎ ((a ≡ worker → ⊥) × (claim_of state a ≡ Some q)) → IsPairOf state.basis q × (¬ (IsSettled state.journal q))
-      unsettled a q (inl (_, e)) = subst (λ q. IsPairOf state.basis q × (¬ (IsSettled state.journal q))) e (h.free.of_basis, h.free.unsettled)
+      unsettled : (a : ℕ) (q : Pair) → ((a ≡ worker) × (h.pair ≡ q)) ⊎ ((a ≡ worker → ⊥) × (claim_of state a ≡ Some q)) →
+          IsPairOf state.basis q × (¬ (IsSettled state.journal q))
+      unsettled a q (inl (_, e)) = subst (λ q. IsPairOf state.basis q × (¬ (IsSettled state.journal q))) e
+          (h.free.of_basis, h.free.unsettled)
       unsettled a q (inr (_, e)) = legal.claims_unsettled a q e
 
-      differ : (a b : ℕ) (q : Pair) → ((a ≡ worker) × (h.pair ≡ q)) ⊎ ((a ≡ worker → ⊥) × (claim_of state a ≡ Some q)) → ((b ≡ worker) × (h.pair ≡ q)) ⊎ ((b ≡ worker → ⊥) × (claim_of state b ≡ Some q)) → a ≡ b
+      differ : (a b : ℕ) (q : Pair) → ((a ≡ worker) × (h.pair ≡ q)) ⊎ ((a ≡ worker → ⊥) × (claim_of state a ≡ Some q)) →
+          ((b ≡ worker) × (h.pair ≡ q)) ⊎ ((b ≡ worker → ⊥) × (claim_of state b ≡ Some q)) → a ≡ b
       differ a b q (inl (e, _)) (inl (f, _)) = e ∙ sym f
       differ a b q (inl (_, e)) (inr (_, f)) = absurd (h.free.unclaimed (b, f ∙ ap Some (sym e)))
       differ a b q (inr (_, e)) (inl (_, f)) = absurd (h.free.unclaimed (a, e ∙ ap Some (sym f)))
@@ -99,10 +116,19 @@ module _ {n : ℕ} {priority : List ℕ} {state : CoreState} (legal : IsLegal n 
         (replay_push n priority state.limit [] (start_of state) state.journal state.basis entry h.moves legal.replays next);
     basis_within = grows.within legal.basis_within;
     claims_by_workers = length-set state.claims worker None ∙ legal.claims_by_workers;
-    claims_unsettled = λ a q e. let (f, g) = cleared state.claims worker a q e in
-        (longer_pair q ((legal.claims_unsettled a q g).0), unsettled q ((legal.claims_unsettled a q g).1) (λ s. f (legal.claims_differ a worker q g (h.claimed ∙ ap Some s))));
+    claims_unsettled = λ a q e. let (f, g) = cleared state.claims worker a q e in (
+      longer_pair q ((legal.claims_unsettled a q g).0),
+      unsettled q ((legal.claims_unsettled a q g).1)
+          (λ s. f (legal.claims_differ a worker q g (h.claimed ∙ ap Some s))),
+    );
     claims_differ = λ a b q e f. legal.claims_differ a b q ((cleared state.claims worker a q e).1) ((cleared state.claims worker b q f).1);
-    claims_counted = omega (arith, legal.claims_counted, held_cleared state.claims worker, ap given_up h.claimed, length-append state.journal (entry ∷ []));
+    claims_counted = omega (
+      arith,
+      legal.claims_counted,
+      held_cleared state.claims worker,
+      ap given_up h.claimed,
+      length-append state.journal (entry ∷ []),
+    );
     claims_within = legal.claims_within;
     halts_by_workers = legal.halts_by_workers;
     halted_without_claim = λ a halt e. cleared_none state.claims worker a (legal.halted_without_claim a halt e);
@@ -169,7 +195,8 @@ module _ {n : ℕ} {priority : List ℕ} {state : CoreState} (legal : IsLegal n 
       new : CoreState
       new = with_halt state worker halt
 
-      without : (a : ℕ) (other : Halt) → ((a ≡ worker) × (halt ≡ other)) ⊎ ((a ≡ worker → ⊥) × (halt_of state a ≡ Some other)) → claim_of new a ≡ None
+      without : (a : ℕ) (other : Halt) → ((a ≡ worker) × (halt ≡ other)) ⊎ ((a ≡ worker → ⊥) × (halt_of state a ≡ Some other)) →
+          claim_of new a ≡ None
       without a other (inl (e, _)) = ap (λ k. get_or (set state.claims worker None) k None) e ∙ cleared_here state.claims worker
       without a other (inr (_, e)) = cleared_none state.claims worker a (legal.halted_without_claim a other e)
 
@@ -182,7 +209,11 @@ module _ {n : ℕ} {priority : List ℕ} {state : CoreState} (legal : IsLegal n 
       }
 
       free : (q : Pair) → IsFree state q → IsFree new q
-      free q f = record { of_basis = f.of_basis; unsettled = f.unsettled; unclaimed = λ (a, e). f.unclaimed (a, (cleared state.claims worker a q e).1) }
+      free q f = record {
+        of_basis = f.of_basis;
+        unsettled = f.unsettled;
+        unclaimed = λ (a, e). f.unclaimed (a, (cleared state.claims worker a q e).1);
+      }
 
       from_cause : (other : Halt) → IsHaltCause state worker other → IsHaltKept new other
       from_cause (Overflow stop) (e, o) = (freed stop.pair e, o)
@@ -194,29 +225,37 @@ module _ {n : ℕ} {priority : List ℕ} {state : CoreState} (legal : IsLegal n 
       still (Full q) (f, o) = (free q f, o)
       still Memory t = t
 
-      kept : (a : ℕ) (other : Halt) → ((a ≡ worker) × (halt ≡ other)) ⊎ ((a ≡ worker → ⊥) × (halt_of state a ≡ Some other)) → IsHaltKept new other
+      kept : (a : ℕ) (other : Halt) → ((a ≡ worker) × (halt ≡ other)) ⊎ ((a ≡ worker → ⊥) × (halt_of state a ≡ Some other)) →
+          IsHaltKept new other
       kept a other (inl (_, e)) = subst (IsHaltKept new) e (from_cause halt h.cause)
       kept a other (inr (_, e)) = still other (legal.halts_kept a other e)
 
       first : IsFirstHalted state → IsFirstHalted new
       first (inl (e, _)) = inr (worker, halt, ap (λ o. first_of o worker) e, get_or-set_same state.halts worker (Some halt) None within)
-      first (inr (a, other, e, f)) = inr (a, other, ap (λ o. first_of o worker) e, get_or-set_other state.halts worker a (Some halt) None apart ∙ f)
+      first (inr (a, other, e, f)) = inr (
+        a,
+        other,
+        ap (λ o. first_of o worker) e,
+        get_or-set_other state.halts worker a (Some halt) None apart ∙ f,
+      )
         where
           apart : a ≡ worker → ⊥
           apart g = none-some other (sym h.no_halt ∙ ap (λ k. halt_of state k) (sym g) ∙ f)
 
-pub events_keep : (n : ℕ) (priority : List ℕ) (state : CoreState) (event : Event) (after : CoreState) → IsLegal n priority state → Happens n priority state event after → IsLegal n priority after
+pub events_keep : (n : ℕ) (priority : List ℕ) (state : CoreState) (event : Event) (after : CoreState) → IsLegal n priority state →
+    Happens n priority state event after → IsLegal n priority after
 events_keep n priority state (Claims worker) after legal h = claim_keeps legal worker after h
 events_keep n priority state (Settles worker way) after legal h = settling_keeps legal worker way after h
 events_keep n priority state (Halts worker halt) after legal h = halting_keeps legal worker halt after h
 
-pub all_events_keep : (n : ℕ) (priority : List ℕ) (state : CoreState) (events : List Event) (after : CoreState) → IsLegal n priority state → HappenInTurn n priority state events after → IsLegal n priority after
+pub all_events_keep : (n : ℕ) (priority : List ℕ) (state : CoreState) (events : List Event) (after : CoreState) → IsLegal n priority state →
+    HappenInTurn n priority state events after → IsLegal n priority after
 all_events_keep n priority state [] after legal e = subst (IsLegal n priority) (sym e) legal
 all_events_keep n priority state (event ∷ events) after legal (middle, h, rest) =
     all_events_keep n priority middle events after (events_keep n priority state event middle legal h) rest
 
 -- ---- where events begin
-none_of : {X : Type 0} (k i : ℕ) → ◌≡◌ {A = Option X} (get_or (replicate k None) i None) None
+pub none_of : {X : Type 0} (k i : ℕ) → ◌≡◌ {A = Option X} (get_or (replicate k None) i None) None
 none_of zero i = refl
 none_of (suc k) zero = refl
 none_of (suc k) (suc i) = none_of k i
@@ -225,7 +264,8 @@ no_claims_held : (k : ℕ) → claims_held (replicate k None) ≡ 0
 no_claims_held zero = refl
 no_claims_held (suc k) = no_claims_held k
 
-pub new_is_legal : (n : ℕ) (priority : List ℕ) (start : List (List ℤ)) (budget limit workers : ℕ) → length start ≤ limit → IsLegal n priority (new_state start budget limit workers)
+pub new_is_legal : (n : ℕ) (priority : List ℕ) (start : List (List ℤ)) (budget limit workers : ℕ) → length start ≤ limit →
+    IsLegal n priority (new_state start budget limit workers)
 new_is_legal n priority start budget limit workers l = record {
   start_within = omega arith;
   replays = sym (take_all (length start) start (omega arith));
@@ -242,7 +282,8 @@ new_is_legal n priority start budget limit workers l = record {
 }
 
 -- a legal state without its workers
-pub phase_is_legal : (n : ℕ) (priority : List ℕ) (state : CoreState) (budget : ℕ) → length state.journal ≤ budget → IsLegal n priority state →
+pub phase_is_legal : (n : ℕ) (priority : List ℕ) (state : CoreState) (budget : ℕ) → length state.journal ≤ budget →
+    IsLegal n priority state →
     IsLegal n priority (phase_state state.start_length state.basis state.journal budget state.limit)
 phase_is_legal n priority state budget l legal = record {
   start_within = legal.start_within;

@@ -22,11 +22,13 @@ module _ {X : Type 0} where
   AllPairs-head R x xs a y (k, l, e) = subst (R x) e (a 0 (suc k) y (omega arith) (omega arith))
 
   -- a member that has a property which is decided, or none has it
-  pub member_or_none : (P : X → Type 0) (xs : List X) → ((x : X) → Contains xs x → P x ⊎ (P x → ⊥)) → ((x : X) × Contains xs x × P x) ⊎ ((x : X) → Contains xs x → P x → ⊥)
+  pub member_or_none : (P : X → Type 0) (xs : List X) → ((x : X) → Contains xs x → P x ⊎ (P x → ⊥)) → ((x : X) × Contains xs x × P x)
+      ⊎ ((x : X) → Contains xs x → P x → ⊥)
   member_or_none P [] f = inr (λ x c h. Contains-none x c)
   member_or_none P (a ∷ xs) f = go (f a (Contains-here a xs)) (member_or_none P xs (λ x c. f x (Contains-there a xs x c)))
     where
-      go : P a ⊎ (P a → ⊥) → ((x : X) × Contains xs x × P x) ⊎ ((x : X) → Contains xs x → P x → ⊥) → ((x : X) × Contains (a ∷ xs) x × P x) ⊎ ((x : X) → Contains (a ∷ xs) x → P x → ⊥)
+      go : P a ⊎ (P a → ⊥) → ((x : X) × Contains xs x × P x) ⊎ ((x : X) → Contains xs x → P x → ⊥) → ((x : X) × Contains (a ∷ xs) x × P x)
+          ⊎ ((x : X) → Contains (a ∷ xs) x → P x → ⊥)
       go (inl h) r = inl (a, Contains-here a xs, h)
       go (inr k) (inl (x, c, h)) = inl (x, Contains-there a xs x c, h)
       go (inr k) (inr r) = inr (λ x c h. ⊎_elim (λ e. k (subst P (sym e) h)) (λ d. r x d h) (Contains-cases a xs x c))
@@ -39,7 +41,9 @@ module _ {X : Type 0} where
   same_from_members R asym (x ∷ xs) [] a b f g = absurd (Contains-none x (f x (Contains-here x xs)))
   same_from_members R asym (x ∷ xs) (y ∷ ys) a b f g =
       let e : x ≡ y = heads (Contains-cases y ys x (f x (Contains-here x xs))) (Contains-cases x xs y (g y (Contains-here y ys))) in
-      let r : xs ≡ ys = same_from_members R asym xs ys (AllPairs-tail R x xs a) (AllPairs-tail R y ys b) (λ z h. forth e z h (Contains-cases y ys z (f z (Contains-there x xs z h)))) (λ z h. back e z h (Contains-cases x xs z (g z (Contains-there y ys z h)))) in
+      let r : xs ≡ ys = same_from_members R asym xs ys (AllPairs-tail R x xs a) (AllPairs-tail R y ys b)
+      (λ z h. forth e z h (Contains-cases y ys z (f z (Contains-there x xs z h))))
+      (λ z h. back e z h (Contains-cases x xs z (g z (Contains-there y ys z h)))) in
       cc
     where
       heads : (y ≡ x) ⊎ Contains ys x → (x ≡ y) ⊎ Contains xs y → x ≡ y

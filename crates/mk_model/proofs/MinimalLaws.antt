@@ -1,5 +1,6 @@
 -- Each essential move is needed: without it its ends stay apart.
-use Rattle.std.proofs.Common.{◌≡◌, ◌⊎◌, inl, inr, ℕ, zero, suc, ◌+◌, ◌≤◌, ◌<◌, List, [], length, take, drop, get_or, Option, ℤ, ◌<ℤ◌, Contains, arith, ap, sym, ◌∙◌, subst, ⊎_elim}
+use Rattle.std.proofs.Common.{◌≡◌, ◌⊎◌, inl, inr, ℕ, zero, suc, ◌+◌, ◌≤◌, ◌<◌, List, [], length, take, drop, get_or, Option, ℤ, ◌<ℤ◌}
+use Rattle.std.proofs.Common.{Contains, arith, ap, sym, ◌∙◌, subst, ⊎_elim}
 use Rattle.std.proofs.lemmas.Int.{ints}
 use Rattle.std.proofs.lemmas.List.{get_or_default, get_or-take, get_or-drop, length-take, length-drop}
 use Rattle.std.proofs.lemmas.List.Elements.{Contains-append_cases}
@@ -25,7 +26,8 @@ PassesBy n others m x y = (a : List ℤ) × (b : List ℤ) × IsEnd m a × IsEnd
 module _ {n : ℕ} {rows : List (List ℤ)} {w : List ℤ} (g : HasGrading (lattice_of n rows w)) where
   -- A walk by one move and others, through points that are no heavier than the lead of that move: the others alone
   -- lead along, or they lead to an end of it and on from an end of it.
-  pub avoid : {others : List ℤ → Type 0} → ((v : List ℤ) → others v → InLattice n rows v) → (m : List ℤ) → InLattice n rows m → (x y : List ℤ) →
+  pub avoid : {others : List ℤ → Type 0} → ((v : List ℤ) → others v → InLattice n rows v) → (m : List ℤ) → InLattice n rows m →
+      (x y : List ℤ) →
       (weight w (lead m) <ℤ weight w x → ⊥) → Joined n (λ v. others v ⊎ (v ≡ m)) x y → Joined n others x y ⊎ PassesBy n others m x y
   avoid {others} inside m h x y light (stay p) = inl (stay p)
   avoid {others} inside m h x y light (step {y = z} p (v, o, s) r) =
@@ -36,18 +38,21 @@ module _ {n : ℕ} {rows : List (List ℤ)} {w : List ℤ} (g : HasGrading (latt
       held (inr e) = subst (InLattice n rows) (sym e) h
 
       at_ends : (z ≡ add x m) ⊎ (z ≡ subtract x m) → IsEnd m x × IsEnd m z
-      at_ends s = ⊎_elim (λ l. absurd (light l)) (λ a. ⊎_elim (λ (b, c). (inl b, inr c)) (λ (b, c). (inr b, inl c)) a) (ends_of_step g x z m p (walk_from r) h s)
+      at_ends s = ⊎_elim (λ l. absurd (light l)) (λ a. ⊎_elim (λ (b, c). (inl b, inr c)) (λ (b, c). (inr b, inl c)) a)
+          (ends_of_step g x z m p (walk_from r) h s)
 
       past : IsEnd m x × IsEnd m z → Joined n others z y ⊎ PassesBy n others m z y → PassesBy n others m x y
       past (b, c) (inl j) = (x, z, b, c, stay p, j)
       past (b, c) (inr (a, d, f, k, i, j)) = (x, d, b, k, stay p, j)
 
-      go : others v ⊎ (v ≡ m) → (z ≡ add x v) ⊎ (z ≡ subtract x v) → Joined n others z y ⊎ PassesBy n others m z y → Joined n others x y ⊎ PassesBy n others m x y
+      go : others v ⊎ (v ≡ m) → (z ≡ add x v) ⊎ (z ≡ subtract x v) → Joined n others z y ⊎ PassesBy n others m z y → Joined n others x y
+          ⊎ PassesBy n others m x y
       go (inl o) s (inl j) = inl (step p (v, o, s) j)
       go (inl o) s (inr (a, d, f, k, i, j)) = inr (a, d, f, k, step p (v, o, s) i, j)
       go (inr e) s t = inr (past (at_ends (subst (λ u. (z ≡ add x u) ⊎ (z ≡ subtract x u)) e s)) t)
 
-  module _ {upto : Option ℕ} {moves : List (List ℤ)} (answer : IsAnswer (lattice_of n rows w) upto moves) (k : ℕ) (inside : k < length moves) where
+  module _ {upto : Option ℕ} {moves : List (List ℤ)} (answer : IsAnswer (lattice_of n rows w) upto moves) (k : ℕ)
+      (inside : k < length moves) where
     abbrev at : ℕ → List ℤ
     at i = get_or moves i []
 
@@ -127,7 +132,8 @@ module _ {n : ℕ} {rows : List (List ℤ)} {w : List ℤ} (g : HasGrading (latt
         go apart (inr h) = (essential_at k inside).not_joined (walk_weaker (before (omega arith)) (λ v p. p) r)
         go apart (inl (inr h)) =
             ⊎_elim apart (passed j h l apart)
-            (avoid {others = OthersBelow j} (others_inside j (omega arith)) (at j) ((essential_at j l).move.in_lattice) (lead (at k)) (tail (at k)) (not_lighter j h l)
+            (avoid {others = OthersBelow j} (others_inside j (omega arith)) (at j) ((essential_at j l).move.in_lattice) (lead (at k))
+            (tail (at k)) (not_lighter j h l)
             (walk_weaker {others = λ v. OthersBelow j v ⊎ (v ≡ at j)} one_or_others (λ v p. p) r))
 
     others_without : (v : List ℤ) → Contains (without k moves) v → OthersBelow (length moves) v
@@ -152,5 +158,6 @@ module _ {n : ℕ} {rows : List (List ℤ)} {w : List ℤ} (g : HasGrading (latt
           not_joined = λ j. stays_apart (length moves) (omega arith) (walk_weaker others_without (λ v p. p) j);
         }
 
-  pub minimal_from_answer : {upto : Option ℕ} {moves : List (List ℤ)} → IsAnswer (lattice_of n rows w) upto moves → IsMinimal (lattice_of n rows w) upto moves
+  pub minimal_from_answer : {upto : Option ℕ} {moves : List (List ℤ)} → IsAnswer (lattice_of n rows w) upto moves →
+      IsMinimal (lattice_of n rows w) upto moves
   minimal_from_answer {moves = moves} answer k l = (lead (get_or moves k []), tail (get_or moves k []), ends_apart answer k l)

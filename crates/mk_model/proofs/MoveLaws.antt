@@ -28,5 +28,6 @@ module _ {n : ℕ} {rows : List (List ℤ)} {w m : List ℤ} (g : HasGrading (la
   pub IsMove-lead_weight : pos 1 ≤ℤ weight w (lead m)
   IsMove-lead_weight =
       let (c, l, h) = IsBelow-decided (λ c. c < n) (standard n) (tail m) (lead m) (standard_within n) move.oriented in
-      let t = entry_within_weight w (tail m) c (λ c l. g.positive c (omega (arith, g.columns))) IsMove-tail.nonnegative (omega (arith, g.columns)) in
+      let t = entry_within_weight w (tail m) c (λ c l. g.positive c (omega (arith, g.columns))) IsMove-tail.nonnegative
+      (omega (arith, g.columns)) in
       omega (arith, ints, t, IsMove-same_weight, IsMove-lead.nonnegative c)

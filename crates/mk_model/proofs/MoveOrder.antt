@@ -31,12 +31,15 @@ ComesBefore-total n w a b k l =
     (λ h. by_lt_z (weight w (lead b)) (weight w (lead a)) (λ i. inl (inr (inl i)))
     (λ i. leads (omega (arith, ints)) (IsBelow-total_standard n (lead a) (lead b) (omega (arith, lengths)) (omega (arith, lengths)))))
   where
-    tails : weight w (lead a) ≡ weight w (lead b) → lead a ≡ lead b → (IsBelow (standard n) (tail a) (tail b) ⊎ IsBelow (standard n) (tail b) (tail a)) ⊎ (tail a ≡ tail b) → (ComesBefore n w a b ⊎ ComesBefore n w b a) ⊎ (a ≡ b)
+    tails : weight w (lead a) ≡ weight w (lead b) → lead a ≡ lead b →
+        (IsBelow (standard n) (tail a) (tail b) ⊎ IsBelow (standard n) (tail b) (tail a)) ⊎ (tail a ≡ tail b) →
+        (ComesBefore n w a b ⊎ ComesBefore n w b a) ⊎ (a ≡ b)
     tails e d (inl (inl h)) = inl (inl (inr (e, inr (d, h))))
     tails e d (inl (inr h)) = inl (inr (inr (sym e, inr (sym d, h))))
     tails e d (inr f) = inr (same_from_ends a b d f)
 
-    leads : weight w (lead a) ≡ weight w (lead b) → (IsBelow (standard n) (lead a) (lead b) ⊎ IsBelow (standard n) (lead b) (lead a)) ⊎ (lead a ≡ lead b) → (ComesBefore n w a b ⊎ ComesBefore n w b a) ⊎ (a ≡ b)
+    leads : weight w (lead a) ≡ weight w (lead b) → (IsBelow (standard n) (lead a) (lead b) ⊎ IsBelow (standard n) (lead b) (lead a))
+        ⊎ (lead a ≡ lead b) → (ComesBefore n w a b ⊎ ComesBefore n w b a) ⊎ (a ≡ b)
     leads e (inl (inl h)) = inl (inl (inr (e, inl h)))
     leads e (inl (inr h)) = inl (inr (inr (sym e, inl h)))
     leads e (inr d) = tails e d (IsBelow-total_standard n (tail a) (tail b) (omega (arith, lengths)) (omega (arith, lengths)))

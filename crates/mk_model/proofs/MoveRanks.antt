@@ -40,11 +40,14 @@ module _ {n : ℕ} {rows : List (List ℤ)} {w : List ℤ} (g : HasGrading (latt
   -- the ranks of two points of one weight ascend as the standard order goes
   pub rank_of_points : (x y : List ℤ) → IsPoint n x → IsPoint n y → weight w x ≡ weight w y → IsBelow (standard n) x y →
       rank (up (weight w x)) (standard n) x < rank (up (weight w y)) (standard n) y
-  rank_of_points x y p q e h = rw (← e) (rank_below (up (weight w x)) (standard n) x y (IsBounded-weight g p) (rw e (IsBounded-weight g q)) h)
+  rank_of_points x y p q e h = rw (← e) (rank_below (up (weight w x)) (standard n) x y (IsBounded-weight g p)
+      (rw e (IsBounded-weight g q)) h)
 
   -- what follows for each move from the moves before it holds of all moves
-  pub by_move_order : (P : List ℤ → Type 0) → ((m : List ℤ) → IsMove n rows m → ((v : List ℤ) → IsMove n rows v → ComesBefore n w v m → P v) → P m) → (m : List ℤ) → IsMove n rows m → P m
-  by_move_order P go = by_three_numbers (λ m. IsMove n rows m → P m) heavy high low (λ m below a. go m a (λ v b k. below v (lower v m b a k) b))
+  pub by_move_order : (P : List ℤ → Type 0) → ((m : List ℤ) → IsMove n rows m →
+      ((v : List ℤ) → IsMove n rows v → ComesBefore n w v m → P v) → P m) → (m : List ℤ) → IsMove n rows m → P m
+  by_move_order P go = by_three_numbers (λ m. IsMove n rows m → P m) heavy high low
+      (λ m below a. go m a (λ v b k. below v (lower v m b a k) b))
     where
       heavy : List ℤ → ℕ
       heavy m = up (weight w (lead m))
@@ -64,6 +67,7 @@ module _ {n : ℕ} {rows : List (List ℤ)} {w : List ℤ} (g : HasGrading (latt
             ap up e,
             inr (
               ap (λ x. rank (up (weight w x)) (standard n) x) d,
-              rank_of_points (tail v) (tail m) (IsMove-tail g b) (IsMove-tail g a) (sym (IsMove-same_weight g b) ∙ e ∙ IsMove-same_weight g a) h,
+              rank_of_points (tail v) (tail m) (IsMove-tail g b) (IsMove-tail g a)
+                  (sym (IsMove-same_weight g b) ∙ e ∙ IsMove-same_weight g a) h,
             ),
           )

@@ -1,5 +1,6 @@
 -- Vectors from which no step leads down: each vector steps down to one, and it is the least of its fibre.
-use Rattle.std.proofs.Common.{◌≡◌, ◌⊎◌, inl, inr, ℕ, zero, suc, ◌<◌, Bool, true, false, List, [], ◌∷◌, ℤ, Contains, All, arith, refl, sym, ◌∙◌, subst, ⊎_elim}
+use Rattle.std.proofs.Common.{◌≡◌, ◌⊎◌, inl, inr, ℕ, zero, suc, ◌<◌, Bool, true, false, List, [], ◌∷◌, ℤ, Contains, All, arith, refl, sym}
+use Rattle.std.proofs.Common.{◌∙◌, subst, ⊎_elim}
 use Rattle.std.proofs.lemmas.List.Elements.{All-contains, Contains-get_or}
 use Rattle.std.proofs.lemmas.Bool.{both_ways}
 use borrow.Author.Differences.{up}
@@ -17,22 +18,27 @@ use Rattle.mk_model.proofs.OrderLaws.{IsBelow-transitive}
 use Rattle.mk_model.proofs.WalkLaws.{walk_append, walk_back}
 use Rattle.mk_model.proofs.Divisors.{Decides-divides, Divides-transitive}
 use Rattle.mk_model.proofs.Ranks.{rank}
-use Rattle.mk_model.proofs.Confluence.{descent_walk, descent_point, descent_below, descent_weight, descent_rank, lcm_point, lcm_descent_first, lcm_descent_second, confluence}
+use Rattle.mk_model.proofs.Confluence.{descent_walk, descent_point, descent_below, descent_weight, descent_rank, lcm_point}
+use Rattle.mk_model.proofs.Confluence.{lcm_descent_first, lcm_descent_second, confluence}
 use Rattle.mk_model.proofs.Reducts.{JoinedBelow-from_meet}
 
-pub reaches_weaker : {next after : List ℤ → List ℤ → Type 0} → ((x y : List ℤ) → next x y → after x y) → {x y : List ℤ} → Reaches next x y → Reaches after x y
+pub reaches_weaker : {next after : List ℤ → List ℤ → Type 0} → ((x y : List ℤ) → next x y → after x y) → {x y : List ℤ} → Reaches next x y →
+    Reaches after x y
 reaches_weaker f here = here
 reaches_weaker f (go {x = x} {y = y} n r) = go (f x y n) (reaches_weaker f r)
 
 -- by more moves
-pub descent_weaker : {moves others : List (List ℤ)} → ((v : List ℤ) → Contains moves v → Contains others v) → (x y : List ℤ) → IsDescent moves x y → IsDescent others x y
+pub descent_weaker : {moves others : List (List ℤ)} → ((v : List ℤ) → Contains moves v → Contains others v) → (x y : List ℤ) →
+    IsDescent moves x y → IsDescent others x y
 descent_weaker f x y d = record { move = d.move; member = f d.move d.member; divides = d.divides; below = d.below }
 
 pub All-from_contains : (P : List ℤ → Type 0) (moves : List (List ℤ)) → ((v : List ℤ) → Contains moves v → P v) → All P moves
 All-from_contains P moves f k d l = f _ (Contains-get_or moves k d l)
 
 -- by fewer moves
-pub AreOrientedMoves-fewer : {n : ℕ} {rows : List (List ℤ)} {w : List ℤ} {p : List ℕ} {moves : List (List ℤ)} (others : List (List ℤ)) → ((v : List ℤ) → Contains others v → Contains moves v) → AreOrientedMoves (lattice_of n rows w) p moves → AreOrientedMoves (lattice_of n rows w) p others
+pub AreOrientedMoves-fewer : {n : ℕ} {rows : List (List ℤ)} {w : List ℤ} {p : List ℕ} {moves : List (List ℤ)} (others : List (List ℤ)) →
+    ((v : List ℤ) → Contains others v → Contains moves v) → AreOrientedMoves (lattice_of n rows w) p moves →
+    AreOrientedMoves (lattice_of n rows w) p others
 AreOrientedMoves-fewer {n} {rows} {w} {p} {moves} others f o =
     record {
       grading = o.grading;
@@ -45,10 +51,20 @@ pub descent_or_none : (moves : List (List ℤ)) (x : List ℤ) → ((y : List �
 descent_or_none [] x = inr (λ v h _. Contains-none v h)
 descent_or_none (m ∷ moves) x = first (divides (lead m) x) refl (descent_or_none moves x)
   where
-    first : (t : Bool) → divides (lead m) x ≡ t → ((y : List ℤ) × IsDescent moves x y) ⊎ IsIrreducible moves x → ((y : List ℤ) × IsDescent (m ∷ moves) x y) ⊎ IsIrreducible (m ∷ moves) x
-    first true e rest = inl (subtract x m, record { move = m; member = Contains-here m moves; divides = (Decides-divides (lead m) x).0 e; below = refl })
+    first : (t : Bool) → divides (lead m) x ≡ t → ((y : List ℤ) × IsDescent moves x y) ⊎ IsIrreducible moves x →
+        ((y : List ℤ) × IsDescent (m ∷ moves) x y) ⊎ IsIrreducible (m ∷ moves) x
+    first true e rest = inl (
+      subtract x m,
+      record {
+        move = m;
+        member = Contains-here m moves;
+        divides = (Decides-divides (lead m) x).0 e;
+        below = refl;
+      },
+    )
     first false e (inl (y, d)) = inl (y, descent_weaker (Contains-there m moves) x y d)
-    first false e (inr none) = inr (λ v h d. ⊎_elim (λ s. both_ways (divides (lead m) x) e ((Decides-divides (lead m) x).1 (subst (λ u. Divides (lead u) x) (sym s) d))) (λ k. none v k d) (Contains-cases m moves v h))
+    first false e (inr none) = inr (λ v h d. ⊎_elim (λ s. both_ways (divides (lead m) x) e
+        ((Decides-divides (lead m) x).1 (subst (λ u. Divides (lead u) x) (sym s) d))) (λ k. none v k d) (Contains-cases m moves v h))
 
 pub irreducible_stays : {moves : List (List ℤ)} {x y : List ℤ} → IsIrreducible moves x → Reaches (IsDescent moves) x y → x ≡ y
 irreducible_stays none here = refl
@@ -60,12 +76,14 @@ pub record LeastReach (moves : List (List ℤ)) (x : List ℤ) : Type 0 where
   pub reach : Reaches (IsDescent moves) x least
   pub irreducible : IsIrreducible moves least
 
-module _ {n : ℕ} {rows : List (List ℤ)} {w : List ℤ} {p : List ℕ} {moves : List (List ℤ)} (o : AreOrientedMoves (lattice_of n rows w) p moves) where
+module _ {n : ℕ} {rows : List (List ℤ)} {w : List ℤ} {p : List ℕ} {moves : List (List ℤ)}
+    (o : AreOrientedMoves (lattice_of n rows w) p moves) where
   lower : (W : ℤ) (t : ℕ) (x : List ℤ) → IsPoint n x → weight w x ≡ W → rank (up W) p x < t → LeastReach moves x
   lower W zero x q e l = absurd (omega arith)
   lower W (suc t) x q e l = next (lower W t) (descent_or_none moves x)
     where
-      next : ((x : List ℤ) → IsPoint n x → weight w x ≡ W → rank (up W) p x < t → LeastReach moves x) → ((y : List ℤ) × IsDescent moves x y) ⊎ IsIrreducible moves x → LeastReach moves x
+      next : ((x : List ℤ) → IsPoint n x → weight w x ≡ W → rank (up W) p x < t → LeastReach moves x) → ((y : List ℤ) × IsDescent moves x y)
+          ⊎ IsIrreducible moves x → LeastReach moves x
       next ih (inl (y, d)) =
           let rest = ih y (descent_point o q d) (descent_weight o q d ∙ e) (omega (arith, descent_rank o W x y q e d)) in
           record { least = rest.least; reach = go d rest.reach; irreducible = rest.irreducible }
@@ -87,23 +105,29 @@ module _ {n : ℕ} {rows : List (List ℤ)} {w : List ℤ} {p : List ℕ} {moves
   joined_by_meet q r m = walk_append (reach_joined q m.from_first) (walk_back (reach_joined r m.from_second))
 
   -- two joined vectors without a step down are equal
-  pub irreducible_joined : EveryPairJoined n p moves → (x y : List ℤ) → IsIrreducible moves x → IsIrreducible moves y → Joined n (Members moves) x y → x ≡ y
+  pub irreducible_joined : EveryPairJoined n p moves → (x y : List ℤ) → IsIrreducible moves x → IsIrreducible moves y →
+      Joined n (Members moves) x y → x ≡ y
   irreducible_joined pairs x y f g j =
       let m = confluence o pairs x y j in
       irreducible_stays f m.from_first ∙ sym (irreducible_stays g m.from_second)
 
   -- to a vector without a step down, everything steps down that is joined to it
-  pub irreducible_reached : EveryPairJoined n p moves → (x y : List ℤ) → IsIrreducible moves x → Joined n (Members moves) y x → Reaches (IsDescent moves) y x
+  pub irreducible_reached : EveryPairJoined n p moves → (x y : List ℤ) → IsIrreducible moves x → Joined n (Members moves) y x →
+      Reaches (IsDescent moves) y x
   irreducible_reached pairs x y f j =
       let m = confluence o pairs y x j in
       subst (Reaches (IsDescent moves) y) (sym (irreducible_stays f m.from_second)) m.from_first
 
   -- where the moves are a Markov basis, it is the least of its fibre
-  pub irreducible_is_least : IsMarkov n rows moves → EveryPairJoined n p moves → (x y : List ℤ) → IsIrreducible moves x → IsPoint n x → IsPoint n y → InLattice n rows (subtract y x) → (x ≡ y) ⊎ IsBelow p x y
+  pub irreducible_is_least : IsMarkov n rows moves → EveryPairJoined n p moves → (x y : List ℤ) → IsIrreducible moves x → IsPoint n x →
+      IsPoint n y → InLattice n rows (subtract y x) → (x ≡ y) ⊎ IsBelow p x y
   irreducible_is_least markov pairs x y f q r h = reach_below r (irreducible_reached pairs x y f (markov.joins y x r q h))
 
 -- ---- a part of the moves whose leads divide all leads
-module _ {n : ℕ} {rows : List (List ℤ)} {w : List ℤ} {p : List ℕ} {moves : List (List ℤ)} (o : AreOrientedMoves (lattice_of n rows w) p moves) (others : List (List ℤ)) (part : (v : List ℤ) → Contains others v → Contains moves v) (covers : (v : List ℤ) → Contains moves v → (u : List ℤ) × Contains others u × Divides (lead u) (lead v)) where
+module _ {n : ℕ} {rows : List (List ℤ)} {w : List ℤ} {p : List ℕ} {moves : List (List ℤ)}
+    (o : AreOrientedMoves (lattice_of n rows w) p moves) (others : List (List ℤ))
+    (part : (v : List ℤ) → Contains others v → Contains moves v) (covers : (v : List ℤ) → Contains moves v → (u : List ℤ)
+    × Contains others u × Divides (lead u) (lead v)) where
   part_oriented : AreOrientedMoves (lattice_of n rows w) p others
   part_oriented = AreOrientedMoves-fewer others part o
 
@@ -128,7 +152,8 @@ module _ {n : ℕ} {rows : List (List ℤ)} {w : List ℤ} {p : List ℕ} {moves
           irreducible_joined o pairs a.least b.least (part_irreducible a.least a.irreducible) (part_irreducible b.least b.irreducible)
           (walk_append (walk_back (down x a.least q a.reach)) (walk_append j (down y b.least r b.reach)))
 
-  pub part_joined : EveryPairJoined n p moves → (x y : List ℤ) → IsPoint n x → IsPoint n y → Joined n (Members moves) x y → Joined n (Members others) x y
+  pub part_joined : EveryPairJoined n p moves → (x y : List ℤ) → IsPoint n x → IsPoint n y → Joined n (Members moves) x y →
+      Joined n (Members others) x y
   part_joined pairs x y q r j = joined_by_meet part_oriented q r (part_meet pairs x y q r j)
 
   pair_of_part : EveryPairJoined n p moves → (a b : List ℤ) → Contains others a → Contains others b → JoinedBelow n p others a b
@@ -153,7 +178,8 @@ module _ {n : ℕ} {rows : List (List ℤ)} {w : List ℤ} {p : List ℕ} {moves
       r = descent_point o top (lcm_descent_second o a b (part b k))
 
       over : Joined n (Members moves) x y
-      over = walk_append (walk_back (reach_joined o top (go (lcm_descent_first o a b (part a h)) here))) (reach_joined o top (go (lcm_descent_second o a b (part b k)) here))
+      over = walk_append (walk_back (reach_joined o top (go (lcm_descent_first o a b (part a h)) here)))
+          (reach_joined o top (go (lcm_descent_second o a b (part b k)) here))
 
   pub part_pairs : EveryPairJoined n p moves → EveryPairJoined n p others
   part_pairs pairs i j d l k = pair_of_part pairs _ _ (Contains-get_or others i d (omega arith)) (Contains-get_or others j d k)

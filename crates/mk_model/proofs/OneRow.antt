@@ -1,5 +1,6 @@
 -- The answer for a lattice of no row, or of the multiples of one vector.
-use Rattle.std.proofs.Common.{◌≡◌, ◌⊎◌, inl, inr, ℕ, zero, suc, List, [], ◌∷◌, None, ℤ, pos, neg_ℤ, ◌*ℤ◌, All, Contains, arith, ap, sym, ◌∙◌, subst, not}
+use Rattle.std.proofs.Common.{◌≡◌, ◌⊎◌, inl, inr, ℕ, zero, suc, List, [], ◌∷◌, None, ℤ, pos, neg_ℤ, ◌*ℤ◌, All, Contains, arith, ap, sym}
+use Rattle.std.proofs.Common.{◌∙◌, subst, not}
 use Rattle.std.proofs.lemmas.List.Elements.{All-nil, All-cons, All-head, All-filter, All-contains_itself}
 use Rattle.mk_model.specs.Vectors.{entry, zeros, negate, scale, weight}
 use Rattle.mk_model.specs.Lattices.{lattice_of, combination, InLattice, HasGrading, is_zero, nonzero_rows}
@@ -8,7 +9,8 @@ use Rattle.mk_model.specs.Walks.{Joined}
 use Rattle.mk_model.specs.Bases.{IsMove, MovesBefore, IsEssential, IsEssentialUpTo, IsAnswer, IsMinimalMarkovBasis}
 use Rattle.mk_model.proofs.Integers.{product_more}
 use Rattle.mk_model.proofs.VectorAlgebra.{parts, scale-one, scale-negate, negate-negate, positive_part-scale, weight-scale, entry-zeros}
-use Rattle.mk_model.proofs.OrderLaws.{factor_is_positive, IsOriented-not_zero, IsOriented-lead_not_tail, ComesBefore-asymmetric, ComesBefore-irreflexive}
+use Rattle.mk_model.proofs.OrderLaws.{factor_is_positive, IsOriented-not_zero, IsOriented-lead_not_tail, ComesBefore-asymmetric}
+use Rattle.mk_model.proofs.OrderLaws.{ComesBefore-irreflexive}
 use Rattle.mk_model.proofs.WalkLaws.{walk_stays, walk_along}
 use Rattle.mk_model.proofs.LatticeLaws.{InLattice-row, InLattice-negate, combination_of_no_row, combination_of_one_row}
 use Rattle.mk_model.proofs.MoveLaws.{IsMove-columns, IsMove-lead, IsMove-tail, IsMove-lead_weight}
@@ -47,13 +49,15 @@ module _ (n : ℕ) (rows : List (List ℤ)) (w m : List ℤ) (g : HasGrading (la
     where
       go : (j : ℕ) × (v ≡ scale (pos (suc j)) m) → Contains (m ∷ []) v ⊎ Joined n (MovesBefore (lattice_of n rows w) v) (lead v) (tail v)
       go (zero, e) = inl (0, omega arith, sym (e ∙ scale-one m))
-      go (suc j, e) = inr (walk_along m (move, before_multiple j v e) (pos (suc (suc j))) (lead v) (tail v) (IsMove-lead g a) (IsMove-tail g a)
+      go (suc j, e) = inr (walk_along m (move, before_multiple j v e) (pos (suc (suc j))) (lead v) (tail v) (IsMove-lead g a)
+          (IsMove-tail g a)
           (omega (arith, IsMove-columns g move)) (parts v ∙ e))
 
   answer_of_generator : IsAnswer (lattice_of n rows w) None (m ∷ [])
   answer_of_generator = record {
     ascending = λ i j d h l. absurd (omega arith);
-    essential = All-cons (IsEssentialUpTo (lattice_of n rows w) None) m [] (record { essential = essential_generator; light = tt }) (All-nil (IsEssentialUpTo (lattice_of n rows w) None));
+    essential = All-cons (IsEssentialUpTo (lattice_of n rows w) None) m [] (record { essential = essential_generator; light = tt })
+        (All-nil (IsEssentialUpTo (lattice_of n rows w) None));
     complete = λ v a light. member_or_joined v a;
   }
 
@@ -61,12 +65,15 @@ module _ (n : ℕ) (rows : List (List ℤ)) (w m : List ℤ) (g : HasGrading (la
   the_answer_of_generator = the_answer g answer_of_generator
 
 -- ---- one row that is not zero
-pub the_answer_of_row : (n : ℕ) (rows : List (List ℤ)) (w row m : List ℤ) → HasGrading (lattice_of n rows w) → nonzero_rows rows ≡ row ∷ [] →
+pub the_answer_of_row : (n : ℕ) (rows : List (List ℤ)) (w row m : List ℤ) → HasGrading (lattice_of n rows w) →
+    nonzero_rows rows ≡ row ∷ [] →
     (m ≡ row) ⊎ (m ≡ negate row) → IsOriented (standard n) m → IsMinimalMarkovBasis (lattice_of n rows w) None (m ∷ [])
-the_answer_of_row n rows w row m g e s o = the_answer_of_generator n rows w m g (record { in_lattice = inside s; oriented = o }) (λ x (f, d). all s x f d)
+the_answer_of_row n rows w row m g e s o = the_answer_of_generator n rows w m g (record { in_lattice = inside s; oriented = o })
+    (λ x (f, d). all s x f d)
   where
     row_stands : Contains rows row
-    row_stands = All-head (Contains rows) row [] (subst (All (Contains rows)) e (All-filter (λ row. not (is_zero row)) (Contains rows) rows (All-contains_itself rows)))
+    row_stands = All-head (Contains rows) row [] (subst (All (Contains rows)) e
+        (All-filter (λ row. not (is_zero row)) (Contains rows) rows (All-contains_itself rows)))
 
     row_inside : InLattice n rows row
     row_inside = InLattice-row n rows row g.rows_columns row_stands
@@ -83,7 +90,8 @@ the_answer_of_row n rows w row m g e s o = the_answer_of_generator n rows w m g 
         (neg_ℤ k, c ∙ h ∙ ap (scale k) turned ∙ scale-negate k m)
 
 -- ---- no row that is not zero
-pub the_answer_of_no_row : (n : ℕ) (rows : List (List ℤ)) (w : List ℤ) → HasGrading (lattice_of n rows w) → nonzero_rows rows ≡ [] → IsMinimalMarkovBasis (lattice_of n rows w) None []
+pub the_answer_of_no_row : (n : ℕ) (rows : List (List ℤ)) (w : List ℤ) → HasGrading (lattice_of n rows w) → nonzero_rows rows ≡ [] →
+    IsMinimalMarkovBasis (lattice_of n rows w) None []
 the_answer_of_no_row n rows w g e = the_answer g answer
   where
     only_zero : (x : List ℤ) → InLattice n rows x → x ≡ zeros n

@@ -1,12 +1,14 @@
 -- The order along a priority list of columns, and the order of moves.
-use Rattle.std.proofs.Common.{◌≡◌, ◌⊎◌, inl, inr, ℕ, zero, suc, ◌≤◌, ◌<◌, List, [], ◌∷◌, length, ℤ, pos, negsuc, ◌<ℤ◌, arith, ap, refl, sym, ◌∙◌, subst, ⊎_elim, All, Contains}
+use Rattle.std.proofs.Common.{◌≡◌, ◌⊎◌, inl, inr, ℕ, zero, suc, ◌≤◌, ◌<◌, List, [], ◌∷◌, length, ℤ, pos, negsuc, ◌<ℤ◌, arith, ap, refl, sym}
+use Rattle.std.proofs.Common.{◌∙◌, subst, ⊎_elim, All, Contains, ◌*ℤ◌}
 use Rattle.std.proofs.lemmas.Int.{ints, by_lt_z}
 use Rattle.std.proofs.lemmas.List.{ext_get_or}
 use Rattle.std.proofs.lemmas.List.Elements.{All-nil, All-cons, All-head, All-tail, All-weaker, All-contains, All-contains_itself}
-use Rattle.mk_model.specs.Vectors.{entry, add, subtract, negate, scale}
+use Rattle.mk_model.specs.Vectors.{entry, add, subtract, negate, scale, positive_part, negative_part}
 use Rattle.mk_model.specs.Orders.{IsBelow, IsOriented, standard, lead, tail, ComesBefore}
-use Rattle.mk_model.proofs.Integers.{below_product, same_from_product}
-use Rattle.mk_model.proofs.VectorAlgebra.{columns, entries, negative_part-scale, positive_part-scale, positive_part-negate, negative_part-negate, scale-negsuc}
+use Rattle.mk_model.proofs.Integers.{below_product, product_below, same_from_product}
+use Rattle.mk_model.proofs.VectorAlgebra.{columns, entries, negative_part-scale, positive_part-scale, positive_part-negate}
+use Rattle.mk_model.proofs.VectorAlgebra.{negative_part-negate, scale-negsuc}
 
 pub IsBelow-irreflexive : (p : List ℕ) (x y : List ℤ) → ((c : ℕ) → entry x c ≡ entry y c) → IsBelow p x y → ⊥
 IsBelow-irreflexive [] x y e h = h
@@ -37,7 +39,8 @@ IsBelow-total (c ∷ p) x y =
     by_lt_z (entry y c) (entry x c) (λ h. inl (inl (inl h)))
     (λ h. by_lt_z (entry x c) (entry y c) (λ k. inl (inr (inl k))) (λ k. go (omega (arith, ints)) (IsBelow-total p x y)))
   where
-    go : entry x c ≡ entry y c → (IsBelow p x y ⊎ IsBelow p y x) ⊎ All (λ c. entry x c ≡ entry y c) p → (IsBelow (c ∷ p) x y ⊎ IsBelow (c ∷ p) y x) ⊎ All (λ c. entry x c ≡ entry y c) (c ∷ p)
+    go : entry x c ≡ entry y c → (IsBelow p x y ⊎ IsBelow p y x) ⊎ All (λ c. entry x c ≡ entry y c) p →
+        (IsBelow (c ∷ p) x y ⊎ IsBelow (c ∷ p) y x) ⊎ All (λ c. entry x c ≡ entry y c) (c ∷ p)
     go e (inl (inl h)) = inl (inl (inr (e, h)))
     go e (inl (inr h)) = inl (inr (inr (sym e, h)))
     go e (inr h) = inr (All-cons (λ c. entry x c ≡ entry y c) c p e h)
@@ -45,7 +48,8 @@ IsBelow-total (c ∷ p) x y =
 pub All-standard : (P : ℕ → Type 0) (n : ℕ) → All P (standard n) → (c : ℕ) → c < n → P c
 All-standard P zero h c l = absurd (omega arith)
 All-standard P (suc n) h c l =
-    ⊎_elim (λ k. All-standard P n (All-tail P n (standard n) h) c k) (λ k. subst P k (All-head P n (standard n) h)) (cases c n (omega arith))
+    ⊎_elim (λ k. All-standard P n (All-tail P n (standard n) h) c k) (λ k. subst P k (All-head P n (standard n) h))
+    (cases c n (omega arith))
   where
     cases : (c n : ℕ) → c ≤ n → (c < n) ⊎ (n ≡ c)
     cases c n l = grind arith
@@ -55,14 +59,18 @@ pub standard_has : (n c : ℕ) → c < n → Contains (standard n) c
 standard_has n c l = All-standard (Contains (standard n)) n (All-contains_itself (standard n)) c l
 
 -- two vectors of n columns, and a list that has every column: one is below the other along it, or they are equal
-pub IsBelow-total_along : (n : ℕ) (p : List ℕ) (x y : List ℤ) → length x ≡ n → length y ≡ n → ((c : ℕ) → c < n → Contains p c) → (IsBelow p x y ⊎ IsBelow p y x) ⊎ (x ≡ y)
+pub IsBelow-total_along : (n : ℕ) (p : List ℕ) (x y : List ℤ) → length x ≡ n → length y ≡ n → ((c : ℕ) → c < n → Contains p c) →
+    (IsBelow p x y ⊎ IsBelow p y x) ⊎ (x ≡ y)
 IsBelow-total_along n p x y l k f =
-    ⊎_elim inl (λ h. inr (ext_get_or (pos 0) x y (omega arith) (λ c j. All-contains (λ c. entry x c ≡ entry y c) p c h (f c (omega arith))))) (IsBelow-total p x y)
+    ⊎_elim inl (λ h. inr (ext_get_or (pos 0) x y (omega arith) (λ c j. All-contains (λ c. entry x c ≡ entry y c) p c h
+    (f c (omega arith))))) (IsBelow-total p x y)
 
 -- two vectors of n columns: one is below the other by the standard list, or they are equal
-pub IsBelow-total_standard : (n : ℕ) (x y : List ℤ) → length x ≡ n → length y ≡ n → (IsBelow (standard n) x y ⊎ IsBelow (standard n) y x) ⊎ (x ≡ y)
+pub IsBelow-total_standard : (n : ℕ) (x y : List ℤ) → length x ≡ n → length y ≡ n → (IsBelow (standard n) x y ⊎ IsBelow (standard n) y x)
+    ⊎ (x ≡ y)
 IsBelow-total_standard n x y l k =
-    ⊎_elim inl (λ h. inr (ext_get_or (pos 0) x y (omega arith) (λ c j. All-standard (λ c. entry x c ≡ entry y c) n h c (omega arith)))) (IsBelow-total (standard n) x y)
+    ⊎_elim inl (λ h. inr (ext_get_or (pos 0) x y (omega arith) (λ c j. All-standard (λ c. entry x c ≡ entry y c) n h c (omega arith))))
+    (IsBelow-total (standard n) x y)
 
 -- the column that decides
 pub IsBelow-decided : (P : ℕ → Type 0) (p : List ℕ) (x y : List ℤ) → All P p → IsBelow p x y → (c : ℕ) × P c × (entry y c <ℤ entry x c)
@@ -89,6 +97,12 @@ IsBelow-subtract (c ∷ p) x m (inl h) = inl (omega (arith, ints, columns))
 IsBelow-subtract (c ∷ p) x m (inr (e, h)) = inr (omega (arith, ints, columns), IsBelow-subtract p x m h)
 
 -- one positive factor for both is cancelled
+-- one positive factor for both keeps the order
+pub IsBelow-scale : (p : List ℕ) (k : ℕ) (x y : List ℤ) → IsBelow p x y → IsBelow p (scale (pos (suc k)) x) (scale (pos (suc k)) y)
+IsBelow-scale [] k x y h = h
+IsBelow-scale (c ∷ p) k x y (inl h) = inl (simp entries (product_below k (entry y c) (entry x c) h))
+IsBelow-scale (c ∷ p) k x y (inr (e, h)) = inr (simp entries (ap (λ a. pos (suc k) *ℤ a) e), IsBelow-scale p k x y h)
+
 pub IsBelow-scale_back : (p : List ℕ) (k : ℕ) (x y : List ℤ) → IsBelow p (scale (pos (suc k)) x) (scale (pos (suc k)) y) → IsBelow p x y
 IsBelow-scale_back [] k x y h = h
 IsBelow-scale_back (c ∷ p) k x y (inl h) = inl (below_product k (entry y c) (entry x c) (simp entries at h))
@@ -101,6 +115,9 @@ IsOriented-not_zero p m e h = IsBelow-irreflexive p _ _ (λ c. omega (arith, int
 
 pub IsOriented-not_negated : (p : List ℕ) (m : List ℤ) → IsOriented p m → IsOriented p (negate m) → ⊥
 IsOriented-not_negated p m h k = IsBelow-asymmetric p _ _ h (simp (positive_part-negate, negative_part-negate) at k)
+
+pub IsOriented-scale : (p : List ℕ) (k : ℕ) (m : List ℤ) → IsOriented p m → IsOriented p (scale (pos (suc k)) m)
+IsOriented-scale p k m h = simp (positive_part-scale, negative_part-scale) (IsBelow-scale p k (negative_part m) (positive_part m) h)
 
 pub IsOriented-scale_back : (p : List ℕ) (k : ℕ) (m : List ℤ) → IsOriented p (scale (pos (suc k)) m) → IsOriented p m
 IsOriented-scale_back p k m h = IsBelow-scale_back p k _ _ (simp (positive_part-scale, negative_part-scale) at h)

@@ -1,5 +1,6 @@
 -- The rank of a nonnegative vector along a priority list: a natural number that is smaller for what is below.
-use Rattle.std.proofs.Common.{◌≡◌, ◌⊎◌, inl, inr, ℕ, suc, ◌+◌, ◌-◌, ◌*◌, ◌^◌, ◌≤◌, ◌<◌, List, [], ◌∷◌, length, ℤ, pos, negsuc, ◌≤ℤ◌, arith, ap, refl}
+use Rattle.std.proofs.Common.{◌≡◌, ◌⊎◌, inl, inr, ℕ, suc, ◌+◌, ◌-◌, ◌*◌, ◌^◌, ◌≤◌, ◌<◌, List, [], ◌∷◌, length, ℤ, pos, negsuc, ◌≤ℤ◌, arith}
+use Rattle.std.proofs.Common.{ap, refl}
 use Rattle.std.proofs.lemmas.Int.{ints}
 use borrow.Author.Differences.{up, down}
 use Rattle.std.proofs.Math.Nat.{pow-suc, pow-zero, mul-le-mul_right}
@@ -26,12 +27,18 @@ down_of_nonnegative (negsuc a) h = absurd (omega (arith, ints))
 pub rank_limit : (bound : ℕ) (p : List ℕ) (x : List ℤ) → rank bound p x < suc bound ^ length p
 rank_limit bound [] x = omega (arith, pow-zero (suc bound))
 rank_limit bound (c ∷ p) x =
-    omega (arith, rank_limit bound p x, pow-suc (suc bound) (length p), mul-le-mul_right (suc bound ^ length p) (digit bound (up (entry x c))))
+    omega (
+      arith,
+      rank_limit bound p x,
+      pow-suc (suc bound) (length p),
+      mul-le-mul_right (suc bound ^ length p) (digit bound (up (entry x c))),
+    )
   where
     digit : (b a : ℕ) → b - a ≤ b
     digit b a = omega arith
 
-pub rank_below : (bound : ℕ) (p : List ℕ) (x y : List ℤ) → IsBounded bound x → IsBounded bound y → IsBelow p x y → rank bound p x < rank bound p y
+pub rank_below : (bound : ℕ) (p : List ℕ) (x y : List ℤ) → IsBounded bound x → IsBounded bound y → IsBelow p x y →
+    rank bound p x < rank bound p y
 rank_below bound [] x y g h b = absurd b
 rank_below bound (c ∷ p) x y g h (inl b) =
     omega (arith, rank_limit bound p x, mul-le-mul_right (suc bound ^ length p) digits)
@@ -42,7 +49,8 @@ rank_below bound (c ∷ p) x y g h (inr (e, b)) =
     omega (arith, rank_below bound p x y g h b, ap (λ a. (bound - up a) * (suc bound ^ length p)) e)
 
 -- a point of a graded lattice is bounded by its weight
-pub IsBounded-weight : {n : ℕ} {rows : List (List ℤ)} {w x : List ℤ} → HasGrading (lattice_of n rows w) → IsPoint n x → IsBounded (up (weight w x)) x
+pub IsBounded-weight : {n : ℕ} {rows : List (List ℤ)} {w x : List ℤ} → HasGrading (lattice_of n rows w) → IsPoint n x →
+    IsBounded (up (weight w x)) x
 IsBounded-weight {n} {rows} {w} {x} g p = record { nonnegative = p.nonnegative; within = λ c. go c (cases c n) }
   where
     cases : (c n : ℕ) → (c < n) ⊎ (n ≤ c)
@@ -50,5 +58,11 @@ IsBounded-weight {n} {rows} {w} {x} g p = record { nonnegative = p.nonnegative; 
 
     go : (c : ℕ) → (c < n) ⊎ (n ≤ c) → up (entry x c) ≤ up (weight w x)
     go c (inl l) =
-        omega (arith, ints, entry_within_weight w x c (λ c h. g.positive c (omega (arith, g.columns))) p.nonnegative (omega (arith, g.columns)), down_of_nonnegative _ (p.nonnegative c))
+        omega (
+          arith,
+          ints,
+          entry_within_weight w x c (λ c h. g.positive c (omega (arith, g.columns))) p.nonnegative
+              (omega (arith, g.columns)),
+          down_of_nonnegative _ (p.nonnegative c),
+        )
     go c (inr l) = rw (get_or_past x c (pos 0) (omega (arith, p.columns))) (omega arith)

@@ -13,7 +13,8 @@ use Rattle.mk_model.proofs.VectorAlgebra.{IsPoint-add, lengths, columns, same_ve
 use Rattle.mk_model.proofs.OrderLaws.{IsBelow-add, IsBelow-transitive, IsOriented-lead_not_tail}
 use Rattle.mk_model.proofs.WalkLaws.{walk_append, walk_back, one_step, walk_from, walk_weaker, walk_to}
 use Rattle.mk_model.proofs.MoveLaws.{IsMove-lead, IsMove-tail, IsMove-ends, IsMove-same_weight}
-use Rattle.mk_model.proofs.Fibres.{AreEnds, same_fibre_step, same_fibre_of_walk, lead_of_difference, same_fibre_back, same_fibre_append, same_fibre_weight, move_of_difference, difference_step, total_points, ends_of_step}
+use Rattle.mk_model.proofs.Fibres.{AreEnds, same_fibre_step, same_fibre_of_walk, lead_of_difference, same_fibre_back, same_fibre_append}
+use Rattle.mk_model.proofs.Fibres.{same_fibre_weight, move_of_difference, difference_step, total_points, ends_of_step}
 use Rattle.mk_model.proofs.Divisors.{IsPoint-quotient}
 use Rattle.mk_model.proofs.DivisorWeights.{proper_divisor_lighter}
 
@@ -25,7 +26,10 @@ module _ {n : ℕ} {rows : List (List ℤ)} {w : List ℤ} (g : HasGrading (latt
     step_down x y p q h e b d =
         difference_step g x y p q (
           move_of_difference g x y h d,
-          ⊎_elim (λ l. inl (omega (arith, ints, l))) (λ (a, c). inr (ap (weight w) (sym a) ∙ e, inl (subst (λ u. IsBelow (standard n) u (lead m)) a b)))
+          ⊎_elim (λ l. inl (omega (arith, ints, l))) (λ (a, c). inr (
+            ap (weight w) (sym a) ∙ e,
+            inl (subst (λ u. IsBelow (standard n) u (lead m)) a b),
+          ))
               (lead_of_difference g x y p q),
         )
 
@@ -50,20 +54,25 @@ module _ {n : ℕ} {rows : List (List ℤ)} {w : List ℤ} (g : HasGrading (latt
         )
 
     -- the component of the lead lies in its fibre
-    pub fibre_of_lead : (x : List ℤ) → Joined n (LighterMoves (lattice_of n rows w) (weight w (lead m))) (lead m) x → InLattice n rows (subtract x (tail m))
+    pub fibre_of_lead : (x : List ℤ) → Joined n (LighterMoves (lattice_of n rows w) (weight w (lead m))) (lead m) x →
+        InLattice n rows (subtract x (tail m))
     fibre_of_lead x j =
         let inside : InLattice n rows (subtract (lead m) x) = same_fibre_of_walk g (λ v (a, l). a.in_lattice) j in
-        same_fibre_append g x (lead m) (tail m) (walk_to j) (IsMove-lead g move) (IsMove-tail g move) (same_fibre_back g (lead m) x inside) (IsMove-ends g move)
+        same_fibre_append g x (lead m) (tail m) (walk_to j) (IsMove-lead g move) (IsMove-tail g move) (same_fibre_back g (lead m) x inside)
+        (IsMove-ends g move)
 
     -- a walk from the lead to a point of the fibre below the lead goes on to the tail
-    pub to_tail : (x : List ℤ) → InLattice n rows (subtract x (tail m)) → IsBelow (standard n) x (lead m) → Joined n (MovesBefore (lattice_of n rows w) m) (lead m) x →
+    pub to_tail : (x : List ℤ) → InLattice n rows (subtract x (tail m)) → IsBelow (standard n) x (lead m) →
+        Joined n (MovesBefore (lattice_of n rows w) m) (lead m) x →
         Joined n (MovesBefore (lattice_of n rows w) m) (lead m) (tail m)
     to_tail x h b j =
         let q = IsMove-tail g move in
-        walk_append j (joined_under_lead x (tail m) (walk_to j) q h (same_fibre_weight g x (tail m) (walk_to j) q h ∙ sym (IsMove-same_weight g move)) b move.oriented)
+        walk_append j (joined_under_lead x (tail m) (walk_to j) q h (same_fibre_weight g x (tail m) (walk_to j) q h
+        ∙ sym (IsMove-same_weight g move)) b move.oriented)
 
     -- so does a walk by lighter moves to a point below the lead
-    pub joined_from_lighter : (x : List ℤ) → Joined n (LighterMoves (lattice_of n rows w) (weight w (lead m))) (lead m) x → IsBelow (standard n) x (lead m) →
+    pub joined_from_lighter : (x : List ℤ) → Joined n (LighterMoves (lattice_of n rows w) (weight w (lead m))) (lead m) x →
+        IsBelow (standard n) x (lead m) →
         Joined n (MovesBefore (lattice_of n rows w) m) (lead m) (tail m)
     joined_from_lighter x j b = to_tail x (fibre_of_lead x j) b (walk_weaker (λ v (a, l). (a, inl l)) (λ u p. p) j)
 
@@ -80,16 +89,19 @@ module _ {n : ℕ} {rows : List (List ℤ)} {w : List ℤ} (g : HasGrading (latt
     unfolding rest
     with_rest = add_difference (lead m) y ((IsMove-lead g move).columns ∙ sym p.columns)
 
-    module _ (lighter : weight w y <ℤ weight w (lead m)) (u : List ℤ) (q : IsPoint n u) (h : InLattice n rows (subtract u y)) (b : IsBelow (standard n) u y) where
+    module _ (lighter : weight w y <ℤ weight w (lead m)) (u : List ℤ) (q : IsPoint n u) (h : InLattice n rows (subtract u y))
+        (b : IsBelow (standard n) u y) where
       difference : subtract (lead m) (add u rest) ≡ subtract y u
       unfolding rest
-      difference = same_vectors _ _ (omega (arith, lengths, (IsMove-lead g move).columns, p.columns, q.columns)) (λ c. omega (arith, ints, columns))
+      difference = same_vectors _ _ (omega (arith, lengths, (IsMove-lead g move).columns, p.columns, q.columns))
+          (λ c. omega (arith, ints, columns))
 
       back : InLattice n rows (subtract y u)
       back = same_fibre_back g u y h
 
       light : weight w (lead (subtract y u)) <ℤ weight w (lead m)
-      light = ⊎_elim (λ l. omega (arith, ints, l, lighter)) (λ (e, f). subst (λ v. weight w v <ℤ weight w (lead m)) e lighter) (lead_of_difference g y u p q)
+      light = ⊎_elim (λ l. omega (arith, ints, l, lighter)) (λ (e, f). subst (λ v. weight w v <ℤ weight w (lead m)) e lighter)
+          (lead_of_difference g y u p q)
 
       down : Joined n (MovesBefore (lattice_of n rows w) m) (lead m) (add u rest)
       down =
@@ -110,8 +122,10 @@ module _ {n : ℕ} {rows : List (List ℤ)} {w : List ℤ} (g : HasGrading (latt
     essential_tail_least = record {
       point = IsMove-tail g move;
       none_below = λ x p h b.
-          let inside = same_fibre_append g (lead m) (tail m) x (IsMove-lead g move) (IsMove-tail g move) p (IsMove-ends g move) (same_fibre_back g x (tail m) h) in
-          essential.not_joined (to_tail move x h (IsBelow-transitive (standard n) x (tail m) (lead m) b move.oriented) (joined_under_tail move x p inside b));
+          let inside = same_fibre_append g (lead m) (tail m) x (IsMove-lead g move) (IsMove-tail g move) p (IsMove-ends g move)
+          (same_fibre_back g x (tail m) h) in
+          essential.not_joined (to_tail move x h (IsBelow-transitive (standard n) x (tail m) (lead m) b move.oriented)
+          (joined_under_tail move x p inside b));
     }
       where
         move : IsMove n rows m
@@ -126,7 +140,8 @@ module _ {n : ℕ} {rows : List (List ℤ)} {w : List ℤ} (g : HasGrading (latt
     pub essential_divisors : (y : List ℤ) → IsPoint n y → Divides y (lead m) → ¬ (y ≡ lead m) → IsLeast n rows y
     essential_divisors y p d apart = record {
       point = p;
-      none_below = λ u q h b. essential.not_joined (through_divisor essential.move y p d (proper_divisor_lighter g (lead m) y (IsMove-lead g essential.move) p d apart) u q h b);
+      none_below = λ u q h b. essential.not_joined (through_divisor essential.move y p d
+          (proper_divisor_lighter g (lead m) y (IsMove-lead g essential.move) p d apart) u q h b);
     }
 
     pub essential_is_reduced : IsReducedMove n rows m
@@ -159,25 +174,35 @@ module _ {n : ℕ} {rows : List (List ℤ)} {w : List ℤ} (g : HasGrading (latt
         move = essential.move
 
   -- a move from the least vector of a component to the least vector of the fibre is essential
-  module _ {m : List ℤ} (move : IsMove n rows m) (first : IsLeastOfComponent (lattice_of n rows w) (lead m)) (last : IsLeast n rows (tail m)) where
+  module _ {m : List ℤ} (move : IsMove n rows m) (first : IsLeastOfComponent (lattice_of n rows w) (lead m))
+      (last : IsLeast n rows (tail m)) where
     abbrev Lighter : List ℤ → Type 0
     Lighter = LighterMoves (lattice_of n rows w) (weight w (lead m))
 
     -- a step by a move before it, from a vertex of the component, is by a lighter move
-    step_is_lighter : (x y v : List ℤ) → Joined n Lighter (lead m) x → IsPoint n y → IsMove n rows v → ComesBefore n w v m → (y ≡ add x v) ⊎ (y ≡ subtract x v) → weight w (lead v) <ℤ weight w (lead m)
+    step_is_lighter : (x y v : List ℤ) → Joined n Lighter (lead m) x → IsPoint n y → IsMove n rows v → ComesBefore n w v m → (y ≡ add x v)
+        ⊎ (y ≡ subtract x v) → weight w (lead v) <ℤ weight w (lead m)
     step_is_lighter x y v j q a (inl l) s = l
     step_is_lighter x y v j q a (inr (e, k)) s =
-        ⊎_elim (λ l. omega (arith, ints, l, same_fibre_weight g x (tail m) (walk_to j) (IsMove-tail g move) (fibre_of_lead move x j), IsMove-same_weight g move))
+        ⊎_elim (λ l. omega (
+          arith,
+          ints,
+          l,
+          same_fibre_weight g x (tail m) (walk_to j) (IsMove-tail g move) (fibre_of_lead move x j),
+          IsMove-same_weight g move,
+        ))
         (λ ends. absurd (refuse ends k)) (ends_of_step g x y v (walk_to j) q a.in_lattice s)
       where
         lead_high : IsBelow (standard n) (lead v) (lead m) → (u : List ℤ) → (u ≡ lead v) ⊎ (u ≡ tail v) → IsBelow (standard n) u (lead m)
         lead_high b u (inl d) = subst (λ u. IsBelow (standard n) u (lead m)) (sym d) b
-        lead_high b u (inr d) = subst (λ u. IsBelow (standard n) u (lead m)) (sym d) (IsBelow-transitive (standard n) (tail v) (lead v) (lead m) a.oriented b)
+        lead_high b u (inr d) = subst (λ u. IsBelow (standard n) u (lead m)) (sym d)
+            (IsBelow-transitive (standard n) (tail v) (lead v) (lead m) a.oriented b)
 
         y_fibre : InLattice n rows (subtract y (tail m))
         y_fibre =
             same_fibre_append g y x (tail m) q (walk_to j) (IsMove-tail g move)
-            (same_fibre_back g x y (same_fibre_step g {moves = λ u. u ≡ v} (λ u e. subst (InLattice n rows) (sym e) a.in_lattice) x y (walk_to j) (v, refl, s))) (fibre_of_lead move x j)
+            (same_fibre_back g x y (same_fibre_step g {moves = λ u. u ≡ v} (λ u e. subst (InLattice n rows) (sym e) a.in_lattice) x y
+            (walk_to j) (v, refl, s))) (fibre_of_lead move x j)
 
         x_end : AreEnds v x y → (x ≡ lead v) ⊎ (x ≡ tail v)
         x_end (inl (d, f)) = inl d
@@ -186,9 +211,11 @@ module _ {n : ℕ} {rows : List (List ℤ)} {w : List ℤ} (g : HasGrading (latt
         refuse : AreEnds v x y → IsBelow (standard n) (lead v) (lead m) ⊎ ((lead v ≡ lead m) × IsBelow (standard n) (tail v) (tail m)) → ⊥
         refuse ends (inl b) = first.none_below x j (lead_high b x (x_end ends))
         refuse (inl (d, f)) (inr (i, b)) = last.none_below y q y_fibre (subst (λ u. IsBelow (standard n) u (tail m)) (sym f) b)
-        refuse (inr (d, f)) (inr (i, b)) = last.none_below x (walk_to j) (fibre_of_lead move x j) (subst (λ u. IsBelow (standard n) u (tail m)) (sym d) b)
+        refuse (inr (d, f)) (inr (i, b)) = last.none_below x (walk_to j) (fibre_of_lead move x j)
+            (subst (λ u. IsBelow (standard n) u (tail m)) (sym d) b)
 
-    stays_lighter : (x y : List ℤ) → Joined n Lighter (lead m) x → Joined n (MovesBefore (lattice_of n rows w) m) x y → Joined n Lighter (lead m) y
+    stays_lighter : (x y : List ℤ) → Joined n Lighter (lead m) x → Joined n (MovesBefore (lattice_of n rows w) m) x y →
+        Joined n Lighter (lead m) y
     stays_lighter x y j (stay p) = j
     stays_lighter x y j (step {y = z} p (v, (a, k), s) r) =
         stays_lighter z y (walk_append j (one_step p (walk_from r) (v, (a, step_is_lighter x z v j (walk_from r) a k s), s))) r
@@ -203,7 +230,8 @@ module _ {n : ℕ} {rows : List (List ℤ)} {w : List ℤ} (g : HasGrading (latt
     star_ordered : IsBelow (standard n) star.to star.from
     star_ordered = go (total_points g star.to star.from star.least.point star.least_of_component.point)
       where
-        go : (IsBelow (standard n) star.to star.from ⊎ IsBelow (standard n) star.from star.to) ⊎ (star.to ≡ star.from) → IsBelow (standard n) star.to star.from
+        go : (IsBelow (standard n) star.to star.from ⊎ IsBelow (standard n) star.from star.to) ⊎ (star.to ≡ star.from) →
+            IsBelow (standard n) star.to star.from
         go (inl (inl b)) = b
         go (inl (inr b)) = absurd (star.least.none_below star.from star.least_of_component.point star.same_fibre b)
         go (inr e) = absurd (star.apart (sym e))
@@ -219,9 +247,11 @@ module _ {n : ℕ} {rows : List (List ℤ)} {w : List ℤ} (g : HasGrading (latt
         joined : weight w (lead (subtract star.from star.to)) <ℤ weight w star.from → ⊥
         joined l =
             star.least_of_component.none_below star.to
-            (difference_step g star.from star.to star.least_of_component.point star.least.point (move_of_difference g star.from star.to star.same_fibre star_ordered, l)) star_ordered
+            (difference_step g star.from star.to star.least_of_component.point star.least.point
+            (move_of_difference g star.from star.to star.same_fibre star_ordered, l)) star_ordered
 
     pub star_is_essential : IsEssential (lattice_of n rows w) m
     star_is_essential =
         let (e, d) = star_ends in
-        essential_from_ends star_move (subst (IsLeastOfComponent (lattice_of n rows w)) e star.least_of_component) (subst (IsLeast n rows) d star.least)
+        essential_from_ends star_move (subst (IsLeastOfComponent (lattice_of n rows w)) e star.least_of_component)
+        (subst (IsLeast n rows) d star.least)

@@ -14,14 +14,17 @@ unfolding tokens tokens_by
 tokens-cons b bytes = refl
 
 -- a text that does not begin with white space has a token
-some_token : (bytes : List ℕ) → begins_with_space bytes ≡ false → (token : List ℕ) × (words : List (List ℕ)) × (tokens bytes ≡ token ∷ words)
+some_token : (bytes : List ℕ) → begins_with_space bytes ≡ false → (token : List ℕ) × (words : List (List ℕ))
+    × (tokens bytes ≡ token ∷ words)
 unfolding tokens_by
 some_token [] h = absurd (false≢true (sym h))
 some_token (b ∷ bytes) h =
-    let e : tokens (b ∷ bytes) ≡ tokens_by b bytes false (begins_with_space bytes) = tokens-cons b bytes ∙ ap (λ t. tokens_by b bytes t (begins_with_space bytes)) h in
+    let e : tokens (b ∷ bytes) ≡ tokens_by b bytes false (begins_with_space bytes) = tokens-cons b bytes
+    ∙ ap (λ t. tokens_by b bytes t (begins_with_space bytes)) h in
     go (begins_with_space bytes) (tokens bytes) e
   where
-    go : (ends : Bool) (words : List (List ℕ)) → tokens (b ∷ bytes) ≡ cond ends ((b ∷ []) ∷ words) (with_first b words) → (token : List ℕ) × (rest : List (List ℕ)) × (tokens (b ∷ bytes) ≡ token ∷ rest)
+    go : (ends : Bool) (words : List (List ℕ)) → tokens (b ∷ bytes) ≡ cond ends ((b ∷ []) ∷ words) (with_first b words) → (token : List ℕ)
+        × (rest : List (List ℕ)) × (tokens (b ∷ bytes) ≡ token ∷ rest)
     go true words e = (b ∷ [], words, e)
     go false [] e = (b ∷ [], [], e)
     go false (word ∷ words) e = (b ∷ word, words, e)
@@ -30,7 +33,8 @@ begins-append : (xs ys : List ℕ) → begins_with_space ys ≡ true → begins_
 begins-append [] ys h = h
 begins-append (x ∷ xs) ys h = refl
 
-with_first-append : (x : ℕ) (words others : List (List ℕ)) (token : List ℕ) (rest : List (List ℕ)) → words ≡ token ∷ rest → with_first x (words ++ others) ≡ with_first x words ++ others
+with_first-append : (x : ℕ) (words others : List (List ℕ)) (token : List ℕ) (rest : List (List ℕ)) → words ≡ token ∷ rest →
+    with_first x (words ++ others) ≡ with_first x words ++ others
 with_first-append x [] others token rest e = cc
 with_first-append x (word ∷ words) others token rest e = refl
 
@@ -41,7 +45,8 @@ tokens-append (x ∷ xs) ys h =
     ap (tokens_by x (xs ++ ys) (is_space x)) (begins-append xs ys h)
     ∙ go (is_space x) (begins_with_space xs) refl (tokens-append xs ys h)
   where
-    go : (white ends : Bool) → begins_with_space xs ≡ ends → tokens (xs ++ ys) ≡ tokens xs ++ tokens ys → tokens_by x (xs ++ ys) white ends ≡ tokens_by x xs white ends ++ tokens ys
+    go : (white ends : Bool) → begins_with_space xs ≡ ends → tokens (xs ++ ys) ≡ tokens xs ++ tokens ys →
+        tokens_by x (xs ++ ys) white ends ≡ tokens_by x xs white ends ++ tokens ys
     go true ends e rest = rest
     go false true e rest = ap (λ (ts : List (List ℕ)). (x ∷ []) ∷ ts) rest
     go false false e rest =

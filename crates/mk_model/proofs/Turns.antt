@@ -34,11 +34,13 @@ module _ (n : ℕ) (priority : List ℕ) (state : CoreState) (worker : ℕ) (aft
   idle_step next (inl (h, e)) = claims h
   idle_step next (inr (e, h)) = stays e
 
-  try_step : (pair : Pair) (seen third tried : ℕ) (next : Stage) → IsTried n priority state worker pair seen third tried after next → IsStep n priority state worker after
+  try_step : (pair : Pair) (seen third tried : ℕ) (next : Stage) → IsTried n priority state worker pair seen third tried after next →
+      IsStep n priority state worker after
   try_step pair seen third tried next (inl (h, e)) = settles (Chain third) h
   try_step pair seen third tried next (inr (f, e, g)) = stays e
 
-  test_step : (pair : Pair) (seen from tried : ℕ) (next : Stage) → IsTest n priority state worker pair seen from tried after next → IsStep n priority state worker after
+  test_step : (pair : Pair) (seen from tried : ℕ) (next : Stage) → IsTest n priority state worker pair seen from tried after next →
+      IsStep n priority state worker after
   test_step pair seen from tried next (inl (h, e)) = settles Coprime h
   test_step pair seen from tried next (inr (f, inl h)) = try_step pair seen h.third tried next h.answer
   test_step pair seen from tried next (inr (f, inr (g, e, k))) = stays e
@@ -47,7 +49,8 @@ module _ (n : ℕ) (priority : List ℕ) (state : CoreState) (worker : ℕ) (aft
   whole_step left next (inl (h, e)) = settles (Place (length state.basis)) h.settling
   whole_step left next (inr ((pair, h), e)) = happens (Halts worker (Full pair)) refl h
 
-  reduced_step : (seen : ℕ) (left : List ℤ) (next : Stage) → IsReducedLine n priority state worker seen left after next → IsStep n priority state worker after
+  reduced_step : (seen : ℕ) (left : List ℤ) (next : Stage) → IsReducedLine n priority state worker seen left after next →
+      IsStep n priority state worker after
   reduced_step seen left next (inl (e, h, f)) = settles Zero h
   reduced_step seen left next (inr (d, inl (l, e, f))) = stays e
   reduced_step seen left next (inr (d, inr (l, h))) = whole_step left next h
@@ -74,7 +77,8 @@ module _ (n : ℕ) (priority : List ℕ) (state : CoreState) (worker : ℕ) (aft
   same_basis : after.basis ≡ state.basis → after.basis ≡ state.basis ++ []
   same_basis e = e ∙ sym (append-nil state.basis)
 
-  other_claims : (new : Option Pair) → after.claims ≡ set state.claims worker new → (other : ℕ) → (other ≡ worker → ⊥) → claim_of after other ≡ claim_of state other
+  other_claims : (new : Option Pair) → after.claims ≡ set state.claims worker new → (other : ℕ) → (other ≡ worker → ⊥) →
+      claim_of after other ≡ claim_of state other
   other_claims new e other d = ap (λ claims. get_or claims other None) e ∙ get_or-set_other state.claims worker other new None d
 
   settling_leaves : (way : Way) → IsSettling n priority state worker way after → LeavesOthers state worker after
@@ -118,27 +122,42 @@ module _ (n : ℕ) (priority : List ℕ) (state : CoreState) (worker : ℕ) (aft
 
 -- ---- turns
 -- what is driven happens by events
-pub driven_events : (n : ℕ) (priority : List ℕ) (state : CoreState) (stages : List Stage) (turns : List ℕ) (after : CoreState) (last : List Stage) →
+pub driven_events : (n : ℕ) (priority : List ℕ) (state : CoreState) (stages : List Stage) (turns : List ℕ) (after : CoreState)
+    (last : List Stage) →
     Drives n priority state stages turns after last → (events : List Event) × HappenInTurn n priority state events after
 driven_events n priority state stages [] after last (e, f) = ([], e)
 driven_events n priority state stages (worker ∷ turns) after last (middle, next, line, rest) =
-    go (driven_events n priority middle (set stages worker next) turns after last rest) (line_step n priority state worker middle (get_or stages worker Gone) next line)
+    go (driven_events n priority middle (set stages worker next) turns after last rest)
+    (line_step n priority state worker middle (get_or stages worker Gone) next line)
   where
-    go : (events : List Event) × HappenInTurn n priority middle events after → IsStep n priority state worker middle → (events : List Event) × HappenInTurn n priority state events after
+    go : (events : List Event) × HappenInTurn n priority middle events after → IsStep n priority state worker middle → (events : List Event)
+        × HappenInTurn n priority state events after
     go (events, h) (stays e) = (events, subst (λ s. HappenInTurn n priority s events after) e h)
     go (events, h) (happens event e g) = (event ∷ events, (middle, g, h))
 
-pub driven_legal : (n : ℕ) (priority : List ℕ) (state : CoreState) (stages : List Stage) (turns : List ℕ) (after : CoreState) (last : List Stage) →
+pub driven_legal : (n : ℕ) (priority : List ℕ) (state : CoreState) (stages : List Stage) (turns : List ℕ) (after : CoreState)
+    (last : List Stage) →
     IsLegal n priority state → Drives n priority state stages turns after last → IsLegal n priority after
 driven_legal n priority state stages turns after last legal h =
     let (events, g) = driven_events n priority state stages turns after last h in
     all_events_keep n priority state events after legal g
 
 -- one turn more
-pub one_more_turn : (n : ℕ) (priority : List ℕ) (state : CoreState) (stages : List Stage) (turns : List ℕ) (middle : CoreState) (between : List Stage) (worker : ℕ) (after : CoreState) (next : Stage) →
+pub one_more_turn : (n : ℕ) (priority : List ℕ) (state : CoreState) (stages : List Stage) (turns : List ℕ) (middle : CoreState)
+    (between : List Stage) (worker : ℕ) (after : CoreState) (next : Stage) →
     Drives n priority state stages turns middle between → IsProgramLine n priority middle worker (get_or between worker Gone) after next →
     Drives n priority state stages (turns ++ worker ∷ []) after (set between worker next)
-one_more_turn n priority state stages [] middle between worker after next (e, f) line =
-    (after, next, subst (λ s. IsProgramLine n priority s worker (get_or stages worker Gone) after next) e (subst (λ b. IsProgramLine n priority middle worker (get_or b worker Gone) after next) f line), (refl, ap (λ b. set b worker next) f))
-one_more_turn n priority state stages (first ∷ turns) middle between worker after next (between_state, stage, h, rest) line =
-    (between_state, stage, h, one_more_turn n priority between_state (set stages first stage) turns middle between worker after next rest line)
+one_more_turn n priority state stages [] middle between worker after next (e, f) line = (
+  after,
+  next,
+  subst (λ s. IsProgramLine n priority s worker (get_or stages worker Gone) after next) e
+      (subst (λ b. IsProgramLine n priority middle worker (get_or b worker Gone) after next) f line),
+  (refl, ap (λ b. set b worker next) f),
+)
+one_more_turn n priority state stages (first ∷ turns) middle between worker after next (between_state, stage, h, rest) line = (
+  between_state,
+  stage,
+  h,
+  one_more_turn n priority between_state
+      (set stages first stage) turns middle between worker after next rest line,
+)

@@ -1,5 +1,6 @@
 -- Vectors entry by entry: lengths, entries and weights of sums, multiples and parts.
-use Rattle.std.proofs.Common.{◌≡◌, ℕ, zero, suc, ◌+◌, ◌*◌, ◌≤◌, ◌<◌, max, List, [], ◌∷◌, length, map, ℤ, pos, negsuc, ◌+ℤ◌, ◌-ℤ◌, ◌*ℤ◌, neg_ℤ, ◌≤ℤ◌, arith, ap, refl, sym, ◌∙◌}
+use Rattle.std.proofs.Common.{◌≡◌, ℕ, zero, suc, ◌+◌, ◌*◌, ◌≤◌, ◌<◌, max, List, [], ◌∷◌, length, map, ℤ, pos, negsuc, ◌+ℤ◌, ◌-ℤ◌, ◌*ℤ◌}
+use Rattle.std.proofs.Common.{neg_ℤ, ◌≤ℤ◌, arith, ap, refl, sym, ◌∙◌}
 use Rattle.std.proofs.lemmas.Int.{ints}
 use Rattle.std.proofs.lemmas.List.{ext_get_or, length-map, length-replicate}
 use Rattle.std.specs.Int.{int_max}
@@ -46,7 +47,8 @@ length-zeros n = length-replicate n (pos 0)
 pub ruleset lengths = (length-add, length-subtract, length-negate, length-scale, length-positive_part, length-negative_part, length-zeros)
 
 -- ---- entries
-pub entry-combine : (f : ℤ → ℤ → ℤ) → f (pos 0) (pos 0) ≡ pos 0 → (x y : List ℤ) (c : ℕ) → entry (combine f x y) c ≡ f (entry x c) (entry y c)
+pub entry-combine : (f : ℤ → ℤ → ℤ) → f (pos 0) (pos 0) ≡ pos 0 → (x y : List ℤ) (c : ℕ) →
+    entry (combine f x y) c ≡ f (entry x c) (entry y c)
 unfolding combine
 entry-combine f e [] [] c = sym e
 entry-combine f e [] (b ∷ y) zero = refl
@@ -93,16 +95,19 @@ entry-zeros (suc n) (suc c) = entry-zeros n c
 pub ruleset entries = (entry-add, entry-subtract, entry-negate, entry-scale, entry-positive_part, entry-negative_part, entry-zeros)
 
 -- the same for `omega`, which reads an integer z as `up z - down z`
-pub add_at : (x y : List ℤ) (c : ℕ) → up (entry (add x y) c) + down (entry x c) + down (entry y c) ≡ down (entry (add x y) c) + up (entry x c) + up (entry y c)
+pub add_at : (x y : List ℤ) (c : ℕ) → up (entry (add x y) c) + down (entry x c) + down (entry y c) ≡ down (entry (add x y) c) + up
+    (entry x c) + up (entry y c)
 add_at x y c = simp entry-add (sum_is_lem (entry x c) (entry y c))
 
-pub subtract_at : (x y : List ℤ) (c : ℕ) → up (entry (subtract x y) c) + down (entry x c) + up (entry y c) ≡ down (entry (subtract x y) c) + up (entry x c) + down (entry y c)
+pub subtract_at : (x y : List ℤ) (c : ℕ) → up (entry (subtract x y) c) + down (entry x c) + up (entry y c) ≡ down
+    (entry (subtract x y) c) + up (entry x c) + down (entry y c)
 subtract_at x y c = simp entry-subtract (omega (arith, sum_is_lem (entry x c) (neg_ℤ (entry y c)), neg_is (entry y c)))
 
 pub negate_at : (x : List ℤ) (c : ℕ) → (up (entry (negate x) c) ≡ down (entry x c)) × (down (entry (negate x) c) ≡ up (entry x c))
 negate_at x c = simp entry-negate (neg_is (entry x c))
 
-pub scale_at : (k : ℤ) (x : List ℤ) (c : ℕ) → (up (entry (scale k x) c) ≡ up k * up (entry x c) + down k * down (entry x c)) × (down (entry (scale k x) c) ≡ up k * down (entry x c) + down k * up (entry x c))
+pub scale_at : (k : ℤ) (x : List ℤ) (c : ℕ) → (up (entry (scale k x) c) ≡ up k * up (entry x c) + down k * down (entry x c))
+    × (down (entry (scale k x) c) ≡ up k * down (entry x c) + down k * up (entry x c))
 scale_at k x c = simp entry-scale (product_is k (entry x c))
 
 pub positive_part_at : (x : List ℤ) (c : ℕ) → (up (entry (positive_part x) c) ≡ up (entry x c)) × (down (entry (positive_part x) c) ≡ 0)
@@ -254,22 +259,47 @@ IsPoint-add {x = x} {y = y} p q =
     record { columns = omega (arith, lengths); nonnegative = λ c. omega (arith, ints, columns, p.nonnegative c, q.nonnegative c) }
 
 -- along a line: a vector between two points is a point
-pub IsPoint-between : {n : ℕ} {x : List ℤ} (k : ℕ) (v : List ℤ) → IsPoint n x → IsPoint n (add x (scale (pos (suc k)) v)) → IsPoint n (add x (scale (pos k) v))
+pub IsPoint-between : {n : ℕ} {x : List ℤ} (k : ℕ) (v : List ℤ) → IsPoint n x → IsPoint n (add x (scale (pos (suc k)) v)) →
+    IsPoint n (add x (scale (pos k) v))
 IsPoint-between {x = x} k v p q =
-    record { columns = omega (arith, lengths); nonnegative = λ c. simp entries (between k (entry x c) (entry v c) (p.nonnegative c) (simp entries at (q.nonnegative c))) }
+    record {
+      columns = omega (arith, lengths);
+      nonnegative = λ c. simp entries
+          (between k (entry x c) (entry v c) (p.nonnegative c) (simp entries at (q.nonnegative c)));
+    }
 
-pub weight_nonnegative : (w x : List ℤ) → ((c : ℕ) → c < length w → pos 1 ≤ℤ entry w c) → ((c : ℕ) → pos 0 ≤ℤ entry x c) → pos 0 ≤ℤ weight w x
+pub weight_nonnegative : (w x : List ℤ) → ((c : ℕ) → c < length w → pos 1 ≤ℤ entry w c) → ((c : ℕ) → pos 0 ≤ℤ entry x c) →
+    pos 0 ≤ℤ weight w x
 unfolding weight
 weight_nonnegative [] x p q = omega (arith, ints)
 weight_nonnegative (k ∷ w) [] p q = omega (arith, ints)
 weight_nonnegative (k ∷ w) (a ∷ x) p q =
-    omega (arith, ints, weight_nonnegative w x (λ c h. p (suc c) (omega arith)) (λ c. q (suc c)), product_at_least k a (p 0 (omega arith)) (q 0), q 0)
+    omega (
+      arith,
+      ints,
+      weight_nonnegative w x (λ c h. p (suc c) (omega arith)) (λ c. q (suc c)),
+      product_at_least k a (p 0 (omega arith)) (q 0),
+      q 0,
+    )
 
-pub entry_within_weight : (w x : List ℤ) (c : ℕ) → ((c : ℕ) → c < length w → pos 1 ≤ℤ entry w c) → ((c : ℕ) → pos 0 ≤ℤ entry x c) → c < length w → entry x c ≤ℤ weight w x
+pub entry_within_weight : (w x : List ℤ) (c : ℕ) → ((c : ℕ) → c < length w → pos 1 ≤ℤ entry w c) → ((c : ℕ) → pos 0 ≤ℤ entry x c) →
+    c < length w → entry x c ≤ℤ weight w x
 unfolding weight
 entry_within_weight [] x c p q h = absurd (omega arith)
 entry_within_weight (k ∷ w) [] c p q h = omega (arith, ints)
 entry_within_weight (k ∷ w) (a ∷ x) zero p q h =
-    omega (arith, ints, weight_nonnegative w x (λ c h. p (suc c) (omega arith)) (λ c. q (suc c)), product_at_least k a (p 0 (omega arith)) (q 0), q 0)
+    omega (
+      arith,
+      ints,
+      weight_nonnegative w x (λ c h. p (suc c) (omega arith)) (λ c. q (suc c)),
+      product_at_least k a (p 0 (omega arith)) (q 0),
+      q 0,
+    )
 entry_within_weight (k ∷ w) (a ∷ x) (suc c) p q h =
-    omega (arith, ints, entry_within_weight w x c (λ c h. p (suc c) (omega arith)) (λ c. q (suc c)) (omega arith), product_at_least k a (p 0 (omega arith)) (q 0), q 0)
+    omega (
+      arith,
+      ints,
+      entry_within_weight w x c (λ c h. p (suc c) (omega arith)) (λ c. q (suc c)) (omega arith),
+      product_at_least k a (p 0 (omega arith)) (q 0),
+      q 0,
+    )

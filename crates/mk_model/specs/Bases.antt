@@ -1,5 +1,6 @@
 -- Markov bases, and the one that is written. (Sturmfels, chapter 5: Theorem 5.3 and minimal generators)
-use Rattle.std.specs.Prelude.{◌≡◌, ◌⊎◌, ◌↔◌, ℕ, suc, ◌<◌, List, ◌++◌, length, take, drop, All, AllPairs, Contains, Option, None, Some, ℤ, pos, ◌≤ℤ◌}
+use Rattle.std.specs.Prelude.{◌≡◌, ◌⊎◌, ◌↔◌, ℕ, suc, ◌<◌, List, ◌++◌, length, take, drop, All, AllPairs, Contains, Option, None, Some, ℤ}
+use Rattle.std.specs.Prelude.{pos, ◌≤ℤ◌}
 use Rattle.mk_model.specs.Vectors.{subtract, weight, IsPoint}
 use Rattle.mk_model.specs.Lattices.{Lattice, InLattice}
 use Rattle.mk_model.specs.Walks.{Joined, Members}

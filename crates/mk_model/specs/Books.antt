@@ -74,7 +74,8 @@ Saturate n moves (list ∷ lists) (phase ∷ phases) rest left =
 -- the phases of a lattice, as far as they are ended: for each column that isn't free, and then the last
 abbrev pub SaturateLattice : Lattice → List PlainPhase → List (List ℤ) → List (List ℕ) → Type 0
 SaturateLattice lattice phases rest left =
-    Saturate lattice.columns (nonzero_rows lattice.rows) (lists_for lattice.columns (bound_columns lattice.columns lattice.rows)) phases rest left
+    Saturate lattice.columns (nonzero_rows lattice.rows) (lists_for lattice.columns (bound_columns lattice.columns lattice.rows))
+    phases rest left
 
 -- Every phase is ended, and the reduced basis of the lattice is made.
 pub record BookIsComplete (lattice : Lattice) (book : PlainBook) : Type 0 where

@@ -1,6 +1,7 @@
 -- The grading that is chosen for a lattice, beside which a matrix and a grade may stand, and why none is. The 4ti2 manual
 -- has the matrix, whose rows have product 0 with each vector of the lattice.
-use Rattle.std.specs.Prelude.{◌≡◌, ◌≢◌, ◌⊎◌, ℕ, not, List, [], ◌∷◌, take, filter, slice_get, All, Any, Option, Some, None, IfSome, IsSomeAnd, ℤ, pos, neg_ℤ, ◌≤ℤ◌, ◌<ℤ◌}
+use Rattle.std.specs.Prelude.{◌≡◌, ◌≢◌, ◌⊎◌, ℕ, not, List, [], ◌∷◌, take, filter, slice_get, All, Any, Option, Some, None, IfSome}
+use Rattle.std.specs.Prelude.{IsSomeAnd, ℤ, pos, neg_ℤ, ◌≤ℤ◌, ◌<ℤ◌}
 use Rattle.std.specs.List.{list_all}
 use Rattle.std.specs.Int.{is_negative}
 use Rattle.mk_model.specs.Vectors.{zeros, add, weight}

@@ -43,7 +43,15 @@ pub record OverflowStop : Type 0 where
 
 -- the stop with these numbers
 abbrev pub stop_at : Pair → Option ℕ → Option (List ℤ) → ℕ → ℤ → ℤ → ℤ → OverflowStop
-stop_at pair by operand column left times right = record { pair = pair; by = by; operand = operand; column = column; left = left; times = times; right = right }
+stop_at pair by operand column left times right = record {
+  pair = pair;
+  by = by;
+  operand = operand;
+  column = column;
+  left = left;
+  times = times;
+  right = right;
+}
 
 -- why a worker halts: an entry out of range, a basis that has its limit of moves, or want of memory
 pub data Halt : Type 0 where

@@ -4,7 +4,8 @@ use Rattle.mk_model.specs.Vectors.{zeros, negate}
 use Rattle.mk_model.specs.Orders.{IsOriented, lead}
 use Rattle.mk_model.specs.Reductions.{lcm, Divides, Reduct, IsNormal}
 use Rattle.mk_model.specs.Pairs.{AreDisjoint}
-use Rattle.mk_model.specs.CoreStates.{Pair, pair_of, Way, Settle, settle, OverflowStop, Halt, CoreState, claim_of, halt_of, move_at, difference, IsLesser, IsSettled, IsFree}
+use Rattle.mk_model.specs.CoreStates.{Pair, pair_of, Way, Settle, settle, OverflowStop, Halt, CoreState, claim_of, halt_of, move_at}
+use Rattle.mk_model.specs.CoreStates.{difference, IsLesser, IsSettled, IsFree}
 use Rattle.mk_model.specs.CoreStates.Way.{Coprime, Chain, Zero, Place}
 use Rattle.mk_model.specs.CoreStates.Halt.{Overflow, Full, Memory}
 use Rattle.mk_model.specs.Overflows.{IsGenuineOverflow}

@@ -1,5 +1,6 @@
 -- Columns that are saturated without completion: the free ones. (Sturmfels, chapter 12; Hemmecke and Malkin 2009)
-use Rattle.std.specs.Prelude.{ℕ, Bool, true, false, ◌&&◌, ◌||◌, if◌then◌else◌, List, [], ◌∷◌, length, map, filter, replicate, get_or, ℤ, pos}
+use Rattle.std.specs.Prelude.{ℕ, Bool, true, false, ◌&&◌, ◌||◌, if◌then◌else◌, List, [], ◌∷◌, length, map, filter, replicate, get_or, ℤ}
+use Rattle.std.specs.Prelude.{pos}
 use Rattle.std.specs.List.{list_all, range_with_len}
 use Rattle.std.specs.Ordering.{int_eq}
 use Rattle.mk_model.specs.Vectors.{entry, negate, positive_part, negative_part}

@@ -6,7 +6,8 @@ use Rattle.mk_model.specs.Events.{IsSettledBy, IsFull, IsPairOverflow}
 
 -- An entry for a pair of the moves so far that none of the earlier entries names, whose condition holds; and the moves
 -- afterwards.
-pub record IsNext (n : ℕ) (priority : List ℕ) (limit : ℕ) (earlier : List Settle) (moves : List (List ℤ)) (entry : Settle) (after : List (List ℤ)) : Type 0 where
+pub record IsNext (n : ℕ) (priority : List ℕ) (limit : ℕ) (earlier : List Settle) (moves : List (List ℤ)) (entry : Settle)
+    (after : List (List ℤ)) : Type 0 where
   pub of_moves : IsPairOf moves entry.pair
   pub unsettled : ¬ (IsSettled earlier entry.pair)
   pub settled : IsSettledBy n priority limit moves earlier entry.pair entry.way after
@@ -15,7 +16,8 @@ pub record IsNext (n : ℕ) (priority : List ℕ) (limit : ℕ) (earlier : List 
 abbrev pub Replays : ℕ → List ℕ → ℕ → List Settle → List (List ℤ) → List Settle → List (List ℤ) → Type 0
 Replays n priority limit earlier moves [] basis = basis ≡ moves
 Replays n priority limit earlier moves (entry ∷ entries) basis =
-    (after : List (List ℤ)) × IsNext n priority limit earlier moves entry after × Replays n priority limit (earlier ++ entry ∷ []) after entries basis
+    (after : List (List ℤ)) × IsNext n priority limit earlier moves entry after
+    × Replays n priority limit (earlier ++ entry ∷ []) after entries basis
 
 -- how many workers have a claim
 abbrev pub claims_held : List (Option Pair) → ℕ
@@ -42,8 +44,10 @@ pub record IsLegal (n : ℕ) (priority : List ℕ) (state : CoreState) : Type 0 
   pub replays : Replays n priority state.limit [] (start_of state) state.journal state.basis
   pub basis_within : length state.basis ≤ state.limit
   pub claims_by_workers : length state.claims ≡ state.workers
-  pub claims_unsettled : (worker : ℕ) (pair : Pair) → claim_of state worker ≡ Some pair → IsPairOf state.basis pair × (¬ (IsSettled state.journal pair))
-  pub claims_differ : (worker other : ℕ) (pair : Pair) → claim_of state worker ≡ Some pair → claim_of state other ≡ Some pair → worker ≡ other
+  pub claims_unsettled : (worker : ℕ) (pair : Pair) → claim_of state worker ≡ Some pair → IsPairOf state.basis pair
+      × (¬ (IsSettled state.journal pair))
+  pub claims_differ : (worker other : ℕ) (pair : Pair) → claim_of state worker ≡ Some pair → claim_of state other ≡ Some pair →
+      worker ≡ other
   pub claims_counted : state.claims_made ≡ length state.journal + claims_held state.claims + state.claims_given_up
   pub claims_within : state.claims_made ≤ state.budget
   pub halts_by_workers : length state.halts ≡ state.workers

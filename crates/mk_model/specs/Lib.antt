@@ -12,10 +12,12 @@ pub mod Pairs
 pub mod Saturation
 pub mod FreeColumns
 pub mod ReducedBases
+pub mod Cheapest
+pub mod Lifting
 pub mod CoreStates
 pub mod Overflows
 pub mod Events
 pub mod Legal
 pub mod Programs
 pub mod Books
-pub mod Worked
+pub mod Tableaux

@@ -22,7 +22,8 @@ pub record IsPointBelow (n : ℕ) (priority : List ℕ) (top x : List ℤ) : Typ
 -- other, and each vertex is below it.
 abbrev pub JoinedBelow : ℕ → List ℕ → List (List ℤ) → List ℤ → List ℤ → Type 0
 JoinedBelow n priority moves a b =
-    Walk (Members moves) (IsPointBelow n priority (lcm (lead a) (lead b))) (subtract (lcm (lead a) (lead b)) a) (subtract (lcm (lead a) (lead b)) b)
+    Walk (Members moves) (IsPointBelow n priority (lcm (lead a) (lead b))) (subtract (lcm (lead a) (lead b)) a)
+    (subtract (lcm (lead a) (lead b)) b)
 
 -- every two of the moves are joined below
 abbrev pub EveryPairJoined : ℕ → List ℕ → List (List ℤ) → Type 0

@@ -67,10 +67,12 @@ pub record IsNextCandidate (moves : List (List ℤ)) (pair : Pair) (from third :
 abbrev pub IsTried : ℕ → List ℕ → CoreState → ℕ → Pair → ℕ → ℕ → ℕ → CoreState → Stage → Type 0
 IsTried n priority state worker pair seen third tried after next =
     (IsSettling n priority state worker (Chain third) after × (next ≡ Idle))
-    ⊎ ((¬ (AreSettled state.journal pair.first third × AreSettled state.journal pair.second third)) × (after ≡ state) × (next ≡ Tests seen (third + 1) (tried + 1)))
+    ⊎ ((¬ (AreSettled state.journal pair.first third × AreSettled state.journal pair.second third)) × (after ≡ state)
+    × (next ≡ Tests seen (third + 1) (tried + 1)))
 
 -- the next candidate is tried, where fewer than eight were
-pub record TriesNext (n : ℕ) (priority : List ℕ) (state : CoreState) (worker : ℕ) (pair : Pair) (seen from tried : ℕ) (after : CoreState) (next : Stage) : Type 0 where
+pub record TriesNext (n : ℕ) (priority : List ℕ) (state : CoreState) (worker : ℕ) (pair : Pair) (seen from tried : ℕ) (after : CoreState)
+    (next : Stage) : Type 0 where
   pub few : tried < 8
   pub third : ℕ
   pub found : IsNextCandidate (take seen state.basis) pair from third
@@ -93,7 +95,8 @@ IsTest n priority state worker pair seen from tried after next =
     ⊎ (HaveCommonColumn state.basis pair × IsSearch n priority state worker pair seen from tried after next)
 
 -- the pair of the claim is tested
-pub record IsTestsLine (n : ℕ) (priority : List ℕ) (state : CoreState) (worker seen from tried : ℕ) (after : CoreState) (next : Stage) : Type 0 where
+pub record IsTestsLine (n : ℕ) (priority : List ℕ) (state : CoreState) (worker seen from tried : ℕ) (after : CoreState)
+    (next : Stage) : Type 0 where
   pub pair : Pair
   pub claimed : claim_of state worker ≡ Some pair
   pub test : IsTest n priority state worker pair seen from tried after next
@@ -111,7 +114,8 @@ ReducesTo n moves seen pair from next =
     ⊎ ((stop : OverflowStop) × (stop.pair ≡ pair) × IsPairOverflow moves stop × (next ≡ Stopping stop))
 
 -- Nothing changes but the stage: the vector of the claimed pair is reduced by the moves, so many.
-pub record IsReducingLine (n : ℕ) (state : CoreState) (worker : ℕ) (moves : List (List ℤ)) (seen : ℕ) (from : Pair → List ℤ) (after : CoreState) (next : Stage) : Type 0 where
+pub record IsReducingLine (n : ℕ) (state : CoreState) (worker : ℕ) (moves : List (List ℤ)) (seen : ℕ) (from : Pair → List ℤ)
+    (after : CoreState) (next : Stage) : Type 0 where
   pub pair : Pair
   pub claimed : claim_of state worker ≡ Some pair
   pub same : after ≡ state

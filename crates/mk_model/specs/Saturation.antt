@@ -1,5 +1,6 @@
 -- Saturation, column by column, and the list without its redundant moves. (Sturmfels, chapter 12)
-use Rattle.std.specs.Prelude.{◌≡◌, ◌⊎◌, ℕ, Bool, true, false, not, ◌&&◌, ◌||◌, ◌==◌, if◌then◌else◌, List, [], ◌∷◌, ◌++◌, Contains, ℤ, pos, AllPairs, int_le}
+use Rattle.std.specs.Prelude.{◌≡◌, ◌⊎◌, ℕ, Bool, true, false, not, ◌&&◌, ◌||◌, ◌==◌, if◌then◌else◌, List, [], ◌∷◌, ◌++◌, Contains, ℤ, pos}
+use Rattle.std.specs.Prelude.{AllPairs, int_le}
 use Rattle.std.specs.List.{list_all, list_any}
 use Rattle.mk_model.specs.Vectors.{entry, add, subtract, negate, IsPoint}
 use Rattle.mk_model.specs.Lattices.{InLattice}
@@ -27,7 +28,8 @@ pub record JoinedUpTo (n : ℕ) (columns : ℕ → Bool) (moves : List (List ℤ
 
 -- that, for all nonnegative vectors that differ by the lattice
 abbrev pub ConnectedUpTo : ℕ → List (List ℤ) → (ℕ → Bool) → List (List ℤ) → Type 0
-ConnectedUpTo n rows columns moves = (x y : List ℤ) → IsPoint n x → IsPoint n y → InLattice n rows (subtract x y) → JoinedUpTo n columns moves x y
+ConnectedUpTo n rows columns moves = (x y : List ℤ) → IsPoint n x → IsPoint n y → InLattice n rows (subtract x y) →
+    JoinedUpTo n columns moves x y
 
 -- a row that is zero, or a move, or the negative of one
 abbrev pub IsSignedRow : List (List ℤ) → List ℤ → Type 0

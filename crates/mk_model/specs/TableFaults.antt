@@ -1,6 +1,7 @@
 -- Faults of a table's text. Its tokens are read from the left, and the first fault counts: in front of it each token is as
 -- it ought to be. It is the fault of the token that begins at a byte, or of the text's end.
-use Rattle.std.specs.Prelude.{◌≡◌, ◌⊎◌, ℕ, ◌+◌, ◌*◌, ◌<◌, ◌≤◌, ◌==◌, false, List, [], ◌∷◌, ◌++◌, length, take, count_by, slice_index, All, ℤ, ◌≤ℤ◌, ◌<ℤ◌}
+use Rattle.std.specs.Prelude.{◌≡◌, ◌⊎◌, ℕ, ◌+◌, ◌*◌, ◌<◌, ◌≤◌, ◌==◌, false, List, [], ◌∷◌, ◌++◌, length, take, count_by, slice_index, All}
+use Rattle.std.specs.Prelude.{ℤ, ◌≤ℤ◌, ◌<ℤ◌}
 use Rattle.mk_model.specs.Tables.{is_space, tokens, IsCount, IsNumber, Limits}
 
 -- the line of a byte: one more than the number of line ends in front of it

@@ -1,19 +1,27 @@
 //! The laws of the definitions. Each is the contract of a function that takes nothing and gives
 //! nothing.
 
-ghost use Rattle.std.specs.Prelude.{◌≡◌, ◌⊎◌, ℕ, ℤ, List, [], ◌∷◌, ◌++◌, length, ◌≤◌, ◌<◌, Bool, false, IsTrue, All, AllPairs, Contains, Option, None, pos, ◌≤ℤ◌, ◌<ℤ◌, ◌↔◌};
+ghost use Rattle.std.specs.Prelude.{◌≡◌, ◌⊎◌, ℕ, ℤ, List, [], ◌∷◌, ◌++◌, length, ◌≤◌, ◌<◌, Bool};
+ghost use Rattle.std.specs.Prelude.{false, IsTrue, All, AllPairs, Contains, Option, None, pos};
+ghost use Rattle.std.specs.Prelude.{◌≤ℤ◌, ◌<ℤ◌, ◌↔◌};
 ghost use Rattle.mk_model.specs.Tables.{Grid, Limits, ReadsTable};
 ghost use Rattle.mk_model.specs.TableFaults.{Fault, HasFault};
-ghost use Rattle.mk_model.specs.Vectors.{negate, entry, zeros, add, subtract, negative_part, weight, IsPoint};
+ghost use Rattle.mk_model.specs.Vectors.{negate, entry, zeros, add, subtract, negative_part};
+ghost use Rattle.mk_model.specs.Vectors.{weight, IsPoint};
 ghost use Rattle.mk_model.specs.Lattices.{Lattice, HasGrading, nonzero_rows, InLattice};
 ghost use Rattle.mk_model.specs.Walks.{Joined, Members};
 ghost use Rattle.mk_model.specs.Orders.{IsBelow, standard, IsOriented, lead, ComesBefore};
-ghost use Rattle.mk_model.specs.Bases.{IsMinimalMarkovBasis, IsAnswer, ListsEssentialMoves, IsEssential, MovesBefore, IsUpTo, IsMarkov, IsMarkovUpTo, IsMinimal};
+ghost use Rattle.mk_model.specs.Bases.{IsMinimalMarkovBasis, IsAnswer, ListsEssentialMoves};
+ghost use Rattle.mk_model.specs.Bases.{IsEssential, MovesBefore, IsUpTo, IsMarkov, IsMarkovUpTo};
+ghost use Rattle.mk_model.specs.Bases.{IsMinimal};
 ghost use Rattle.mk_model.specs.Reductions.{lcm, Divides, Meet, Reduct, IsIrreducible};
 ghost use Rattle.mk_model.specs.Pairs.{AreOrientedMoves, JoinedBelow, EveryPairJoined, AreDisjoint};
 ghost use Rattle.mk_model.specs.FreeColumns.{is_left, freed_by_rows};
-ghost use Rattle.mk_model.specs.Saturation.{IsSupported, every_column, without_column, ConnectedUpTo, IsSignedRow, drop_redundant, NoneRedundant};
-ghost use Rattle.mk_model.specs.ReducedBases.{IsLeast, IsReducedBasis, LighterMoves, IsLeastOfComponent, IsStarMove};
+ghost use Rattle.mk_model.specs.Saturation.{IsSupported, every_column, without_column};
+ghost use Rattle.mk_model.specs.Saturation.{ConnectedUpTo, IsSignedRow, drop_redundant};
+ghost use Rattle.mk_model.specs.Saturation.{NoneRedundant};
+ghost use Rattle.mk_model.specs.ReducedBases.{IsLeast, IsReducedBasis, LighterMoves};
+ghost use Rattle.mk_model.specs.ReducedBases.{IsLeastOfComponent, IsStarMove};
 ghost use Rattle.mk_model.specs.CoreStates.{Settle, CoreState, start_of, new_state, phase_state};
 ghost use Rattle.mk_model.specs.Events.{Event, Happens, HappenInTurn};
 ghost use Rattle.mk_model.specs.Legal.{IsNext, Replays, IsLegal, IsEnded};
@@ -29,7 +37,8 @@ pub fn answer_without_rows()
 /// oriented.
 pub fn answer_of_one_row()
     ensures { (lattice : Lattice) (row m : List ℤ) → HasGrading lattice →
-        nonzero_rows lattice.rows ≡ row ∷ [] → (m ≡ row) ⊎ (m ≡ negate row) → IsOriented (standard lattice.columns) m →
+        nonzero_rows lattice.rows ≡ row ∷ [] → (m ≡ row) ⊎ (m ≡ negate row) →
+        IsOriented (standard lattice.columns) m →
         IsMinimalMarkovBasis lattice None (m ∷ []) }
 {}
 
@@ -38,7 +47,8 @@ pub fn join_translate()
     ensures by_list { (n : ℕ) (moves : List (List ℤ)) (x y t : List ℤ) →
         Joined n (Members moves) x y → IsPoint n t → Joined n (Members moves) (add x t) (add y t) }
     ensures by_test { (n : ℕ) (test : List ℤ → Bool) (x y t : List ℤ) →
-        Joined n (λ m. IsTrue (test m)) x y → IsPoint n t → Joined n (λ m. IsTrue (test m)) (add x t) (add y t) }
+        Joined n (λ m. IsTrue (test m)) x y → IsPoint n t →
+        Joined n (λ m. IsTrue (test m)) (add x t) (add y t) }
     ensures by_earlier { (lattice : Lattice) (m x y t : List ℤ) →
         Joined lattice.columns (MovesBefore lattice m) x y → IsPoint lattice.columns t →
         Joined lattice.columns (MovesBefore lattice m) (add x t) (add y t) }
@@ -51,11 +61,13 @@ pub fn join_translate()
 /// below the other or they are equal, along each list that has all columns, as the standard list.
 pub fn below_is_strict_and_total()
     ensures irreflexive { (priority : List ℕ) (x : List ℤ) → ¬ (IsBelow priority x x) }
-    ensures asymmetric { (priority : List ℕ) (x y : List ℤ) → IsBelow priority x y → ¬ (IsBelow priority y x) }
+    ensures asymmetric { (priority : List ℕ) (x y : List ℤ) → IsBelow priority x y →
+        ¬ (IsBelow priority y x) }
     ensures transitive { (priority : List ℕ) (x y z : List ℤ) →
         IsBelow priority x y → IsBelow priority y z → IsBelow priority x z }
     ensures total { (n : ℕ) (priority : List ℕ) (x y : List ℤ) → length x ≡ n → length y ≡ n →
-        ((c : ℕ) → c < n → Contains priority c) → (IsBelow priority x y ⊎ IsBelow priority y x) ⊎ (x ≡ y) }
+        ((c : ℕ) → c < n → Contains priority c) → (IsBelow priority x y ⊎ IsBelow priority y x)
+        ⊎ (x ≡ y) }
     ensures total_standard { (n : ℕ) (x y : List ℤ) → length x ≡ n → length y ≡ n →
         (IsBelow (standard n) x y ⊎ IsBelow (standard n) y x) ⊎ (x ≡ y) }
     ensures all_standard { (n c : ℕ) → c < n → Contains (standard n) c }
@@ -64,7 +76,8 @@ pub fn below_is_strict_and_total()
 /// The order of moves is strict, and total on vectors of n columns, whatever the grading.
 pub fn move_order_is_strict_and_total()
     ensures irreflexive { (n : ℕ) (w m : List ℤ) → ¬ (ComesBefore n w m m) }
-    ensures asymmetric { (n : ℕ) (w m other : List ℤ) → ComesBefore n w m other → ¬ (ComesBefore n w other m) }
+    ensures asymmetric { (n : ℕ) (w m other : List ℤ) → ComesBefore n w m other →
+        ¬ (ComesBefore n w other m) }
     ensures transitive { (n : ℕ) (w m middle last : List ℤ) →
         ComesBefore n w m middle → ComesBefore n w middle last → ComesBefore n w m last }
     ensures total { (n : ℕ) (w m other : List ℤ) → length m ≡ n → length other ≡ n →
@@ -75,9 +88,11 @@ pub fn move_order_is_strict_and_total()
 /// their weight, and a list has them all.
 pub fn every_fibre_is_finite()
     ensures bounded { (lattice : Lattice) (x y : List ℤ) (c : ℕ) → HasGrading lattice →
-        IsPoint lattice.columns x → IsPoint lattice.columns y → InLattice lattice.columns lattice.rows (subtract y x) →
+        IsPoint lattice.columns x → IsPoint lattice.columns y →
+        InLattice lattice.columns lattice.rows (subtract y x) →
         (pos 0 ≤ℤ entry y c) × (entry y c ≤ℤ weight lattice.grading x) }
-    ensures listed { (lattice : Lattice) (x : List ℤ) → HasGrading lattice → IsPoint lattice.columns x →
+    ensures listed { (lattice : Lattice) (x : List ℤ) → HasGrading lattice →
+        IsPoint lattice.columns x →
         (vectors : List (List ℤ)) × ((y : List ℤ) → IsPoint lattice.columns y →
         InLattice lattice.columns lattice.rows (subtract y x) → Contains vectors y) }
 {}
@@ -93,7 +108,8 @@ pub fn connected_up_to_none_is_markov()
 /// one.
 pub fn connected_by_rows()
     ensures { (lattice : Lattice) (moves : List (List ℤ)) → HasGrading lattice →
-        All (IsSignedRow moves) lattice.rows → ConnectedUpTo lattice.columns lattice.rows every_column moves }
+        All (IsSignedRow moves) lattice.rows →
+        ConnectedUpTo lattice.columns lattice.rows every_column moves }
 {}
 
 /// Where a Markov basis has every pair joined below, a vector that no lead divides is the least
@@ -102,14 +118,16 @@ pub fn irreducible_is_least()
     ensures { (lattice : Lattice) (priority : List ℕ) (moves : List (List ℤ)) (x y : List ℤ) →
         AreOrientedMoves lattice priority moves → IsMarkov lattice.columns lattice.rows moves →
         EveryPairJoined lattice.columns priority moves → IsIrreducible moves x →
-        IsPoint lattice.columns x → IsPoint lattice.columns y → InLattice lattice.columns lattice.rows (subtract y x) →
+        IsPoint lattice.columns x → IsPoint lattice.columns y →
+        InLattice lattice.columns lattice.rows (subtract y x) →
         (x ≡ y) ⊎ IsBelow priority x y }
 {}
 
 /// When the redundant moves are dropped, those that are left are moves of the list, and the lead
 /// of each move of the list is divided by the lead of one that is left.
 pub fn drop_redundant_covers()
-    ensures members { (moves : List (List ℤ)) (m : List ℤ) → Contains (drop_redundant moves) m → Contains moves m }
+    ensures members { (moves : List (List ℤ)) (m : List ℤ) → Contains (drop_redundant moves) m →
+        Contains moves m }
     ensures divisors { (moves : List (List ℤ)) (m : List ℤ) → Contains moves m →
         (kept : List ℤ) × Contains (drop_redundant moves) kept × Divides (lead kept) (lead m) }
 {}
@@ -130,22 +148,30 @@ pub fn confluence_from_pairs()
 /// Four reasons why two moves of a list are joined below the least common multiple of their
 /// leads.
 pub fn join_chain()
-    ensures disjoint { (lattice : Lattice) (priority : List ℕ) (moves : List (List ℤ)) (a b : List ℤ) →
+    ensures disjoint { (lattice : Lattice) (priority : List ℕ) (moves : List (List ℤ))
+        (a b : List ℤ) →
         AreOrientedMoves lattice priority moves → Contains moves a → Contains moves b →
         AreDisjoint (lead a) (lead b) → JoinedBelow lattice.columns priority moves a b }
-    ensures chain { (lattice : Lattice) (priority : List ℕ) (moves : List (List ℤ)) (a b third : List ℤ) →
-        AreOrientedMoves lattice priority moves → Contains moves a → Contains moves b → Contains moves third →
-        Divides (lead third) (lcm (lead a) (lead b)) →
-        JoinedBelow lattice.columns priority moves a third → JoinedBelow lattice.columns priority moves b third →
-        JoinedBelow lattice.columns priority moves a b }
-    ensures zero_reduct { (lattice : Lattice) (priority : List ℕ) (moves : List (List ℤ)) (a b : List ℤ) →
+    ensures chain { (lattice : Lattice) (priority : List ℕ) (moves : List (List ℤ))
+        (a b third : List ℤ) →
         AreOrientedMoves lattice priority moves → Contains moves a → Contains moves b →
-        Reduct moves (subtract b a) (zeros lattice.columns) → JoinedBelow lattice.columns priority moves a b }
-    ensures member_reduct { (lattice : Lattice) (priority : List ℕ) (moves : List (List ℤ)) (a b r : List ℤ) →
+        Contains moves third →
+        Divides (lead third) (lcm (lead a) (lead b)) →
+        JoinedBelow lattice.columns priority moves a third →
+        JoinedBelow lattice.columns priority moves b third →
+        JoinedBelow lattice.columns priority moves a b }
+    ensures zero_reduct { (lattice : Lattice) (priority : List ℕ) (moves : List (List ℤ))
+        (a b : List ℤ) →
+        AreOrientedMoves lattice priority moves → Contains moves a → Contains moves b →
+        Reduct moves (subtract b a) (zeros lattice.columns) →
+        JoinedBelow lattice.columns priority moves a b }
+    ensures member_reduct { (lattice : Lattice) (priority : List ℕ) (moves : List (List ℤ))
+        (a b r : List ℤ) →
         AreOrientedMoves lattice priority moves → Contains moves a → Contains moves b →
         Reduct moves (subtract b a) r → Contains moves r ⊎ Contains moves (negate r) →
         JoinedBelow lattice.columns priority moves a b }
-    ensures either_order { (lattice : Lattice) (priority : List ℕ) (moves : List (List ℤ)) (a b : List ℤ) →
+    ensures either_order { (lattice : Lattice) (priority : List ℕ) (moves : List (List ℤ))
+        (a b : List ℤ) →
         AreOrientedMoves lattice priority moves → JoinedBelow lattice.columns priority moves a b →
         JoinedBelow lattice.columns priority moves b a }
 {}
@@ -155,11 +181,14 @@ pub fn join_chain()
 /// for a priority list that begins with it; and without redundant moves the list joins the same,
 /// with every pair joined below.
 pub fn conn_drop()
-    ensures by_others { (n : ℕ) (rows : List (List ℤ)) (columns : ℕ → Bool) (moves others : List (List ℤ)) →
+    ensures by_others { (n : ℕ) (rows : List (List ℤ)) (columns : ℕ → Bool)
+        (moves others : List (List ℤ)) →
         ((x y : List ℤ) → Joined n (Members moves) x y → Joined n (Members others) x y) →
         ConnectedUpTo n rows columns moves → ConnectedUpTo n rows columns others }
-    ensures completed_column { (lattice : Lattice) (i : ℕ) (priority : List ℕ) (columns : ℕ → Bool) (moves : List (List ℤ)) →
-        AreOrientedMoves lattice (i ∷ priority) moves → EveryPairJoined lattice.columns (i ∷ priority) moves →
+    ensures completed_column { (lattice : Lattice) (i : ℕ) (priority : List ℕ) (columns : ℕ → Bool)
+        (moves : List (List ℤ)) →
+        AreOrientedMoves lattice (i ∷ priority) moves →
+        EveryPairJoined lattice.columns (i ∷ priority) moves →
         ConnectedUpTo lattice.columns lattice.rows columns moves →
         ConnectedUpTo lattice.columns lattice.rows (without_column columns i) moves }
     ensures joins_the_same { (lattice : Lattice) (priority : List ℕ) (moves : List (List ℤ)) →
@@ -174,8 +203,10 @@ pub fn conn_drop()
 /// A column leaves where a move, or its negative, has its negative part within the columns and is
 /// positive there.
 pub fn conn_free()
-    ensures { (lattice : Lattice) (columns : ℕ → Bool) (i : ℕ) (moves : List (List ℤ)) (u : List ℤ) →
-        HasGrading lattice → All (InLattice lattice.columns lattice.rows) moves → Contains moves u ⊎ Contains moves (negate u) →
+    ensures { (lattice : Lattice) (columns : ℕ → Bool) (i : ℕ) (moves : List (List ℤ))
+        (u : List ℤ) →
+        HasGrading lattice → All (InLattice lattice.columns lattice.rows) moves → Contains moves u
+        ⊎ Contains moves (negate u) →
         IsSupported columns (negative_part u) → pos 1 ≤ℤ entry u i →
         ConnectedUpTo lattice.columns lattice.rows columns moves →
         ConnectedUpTo lattice.columns lattice.rows (without_column columns i) moves }
@@ -187,7 +218,8 @@ pub fn free_columns_leave()
     ensures { (lattice : Lattice) (priority : List ℕ) (moves : List (List ℤ)) (left : List Bool) →
         HasGrading lattice → All (InLattice lattice.columns lattice.rows) moves →
         ConnectedUpTo lattice.columns lattice.rows (is_left left) moves →
-        ConnectedUpTo lattice.columns lattice.rows (is_left (freed_by_rows priority moves left)) moves }
+        ConnectedUpTo lattice.columns lattice.rows
+        (is_left (freed_by_rows priority moves left)) moves }
 {}
 
 /// Without a bound, to join the nonnegative vectors of weights up to it is to join all of them.
@@ -196,8 +228,8 @@ pub fn markov_up_to_none_is_markov()
         (IsMarkovUpTo lattice None moves ↔ IsMarkov lattice.columns lattice.rows moves) }
 {}
 
-/// The moves of an answer join all nonnegative vectors of weights up to its bound that differ by the
-/// lattice.
+/// The moves of an answer join all nonnegative vectors of weights up to its bound that differ by
+/// the lattice.
 pub fn essential_is_markov()
     ensures { (lattice : Lattice) (upto : Option ℕ) (moves : List (List ℤ)) → HasGrading lattice →
         IsAnswer lattice upto moves → IsMarkovUpTo lattice upto moves }
@@ -214,7 +246,8 @@ pub fn essential_is_minimal()
 /// ascending.
 pub fn answer_is_unique()
     ensures { (lattice : Lattice) (upto : Option ℕ) (moves others : List (List ℤ)) →
-        ListsEssentialMoves lattice upto moves → ListsEssentialMoves lattice upto others → moves ≡ others }
+        ListsEssentialMoves lattice upto moves → ListsEssentialMoves lattice upto others →
+        moves ≡ others }
 {}
 
 /// The members of an answer are the essential moves up to its bound, and it ascends.
@@ -234,7 +267,8 @@ pub fn reduced_basis_is_unique()
 pub fn reduced_basis_divides()
     ensures { (lattice : Lattice) (moves : List (List ℤ)) → HasGrading lattice →
         IsReducedBasis lattice moves → (x : List ℤ) → IsPoint lattice.columns x →
-        IsLeast lattice.columns lattice.rows x ⊎ ((m : List ℤ) × Contains moves m × Divides (lead m) x) }
+        IsLeast lattice.columns lattice.rows x ⊎ ((m : List ℤ) × Contains moves m
+        × Divides (lead m) x) }
 {}
 
 /// The moves of the reduced basis join all nonnegative vectors that differ by the lattice.
@@ -258,21 +292,26 @@ pub fn least_vector_is_unique()
 
 /// What lighter moves of the lattice join, lighter members of the reduced basis join.
 pub fn lighter_members_join()
-    ensures { (lattice : Lattice) (basis : List (List ℤ)) (bound : ℤ) (x y : List ℤ) → HasGrading lattice →
+    ensures { (lattice : Lattice) (basis : List (List ℤ)) (bound : ℤ) (x y : List ℤ) →
+        HasGrading lattice →
         IsReducedBasis lattice basis → Joined lattice.columns (LighterMoves lattice bound) x y →
-        Joined lattice.columns (λ m. Contains basis m × (weight lattice.grading (lead m) <ℤ bound)) x y }
+        Joined lattice.columns (λ m. Contains basis m × (weight lattice.grading (lead m) <ℤ bound))
+        x y }
 {}
 
 /// The members of the reduced basis up to a bound whose leads are the least of their components are
-/// the answer, where from the lead of each other member up to it lighter moves lead to a vector below
-/// it.
+/// the answer, where from the lead of each other member up to it lighter moves lead to a vector
+/// below it.
 pub fn answer_from_components()
-    ensures { (lattice : Lattice) (upto : Option ℕ) (basis chosen : List (List ℤ)) → HasGrading lattice → IsReducedBasis lattice basis →
+    ensures { (lattice : Lattice) (upto : Option ℕ) (basis chosen : List (List ℤ)) →
+        HasGrading lattice → IsReducedBasis lattice basis →
         AllPairs (ComesBefore lattice.columns lattice.grading) chosen →
-        All (λ m. Contains basis m × IsUpTo upto (weight lattice.grading (lead m)) × IsLeastOfComponent lattice (lead m)) chosen →
+        All (λ m. Contains basis m × IsUpTo upto (weight lattice.grading (lead m))
+        × IsLeastOfComponent lattice (lead m)) chosen →
         ((m : List ℤ) → Contains basis m → IsUpTo upto (weight lattice.grading (lead m)) →
         Contains chosen m ⊎ ((x : List ℤ) × IsBelow (standard lattice.columns) x (lead m)
-        × Joined lattice.columns (LighterMoves lattice (weight lattice.grading (lead m))) (lead m) x)) →
+        × Joined lattice.columns (LighterMoves lattice (weight lattice.grading (lead m)))
+        (lead m) x)) →
         IsAnswer lattice upto chosen }
 {}
 
@@ -285,8 +324,10 @@ pub fn essential_moves_are_stars()
 
 /// A journal that replays goes on by one entry at its end.
 pub fn replay_goes_on()
-    ensures { (n : ℕ) (priority : List ℕ) (limit : ℕ) (start basis after : List (List ℤ)) (journal : List Settle) (entry : Settle) →
-        Replays n priority limit [] start journal basis → IsNext n priority limit journal basis entry after →
+    ensures { (n : ℕ) (priority : List ℕ) (limit : ℕ) (start basis after : List (List ℤ))
+        (journal : List Settle) (entry : Settle) →
+        Replays n priority limit [] start journal basis →
+        IsNext n priority limit journal basis entry after →
         Replays n priority limit [] start (journal ++ entry ∷ []) after }
 {}
 
@@ -299,45 +340,57 @@ pub fn events_keep_legal()
 /// A completion that begins with no more moves than its limit is legal, and stays so whatever
 /// events happen.
 pub fn reached_is_legal()
-    ensures { (n : ℕ) (priority : List ℕ) (start : List (List ℤ)) (budget limit workers : ℕ) (events : List Event) (after : CoreState) →
-        length start ≤ limit → HappenInTurn n priority (new_state start budget limit workers) events after → IsLegal n priority after }
+    ensures { (n : ℕ) (priority : List ℕ) (start : List (List ℤ)) (budget limit workers : ℕ)
+        (events : List Event) (after : CoreState) →
+        length start ≤ limit → HappenInTurn n priority
+        (new_state start budget limit workers) events after → IsLegal n priority after }
 {}
 
 /// Whatever turns workers take, what their lines lead to happens by events, and a legal state stays
 /// legal.
 pub fn turns_happen_by_events()
-    ensures events { (n : ℕ) (priority : List ℕ) (state : CoreState) (stages : List Stage) (turns : List ℕ) (after : CoreState) (last : List Stage) →
-        Drives n priority state stages turns after last → (events : List Event) × HappenInTurn n priority state events after }
-    ensures legal { (n : ℕ) (priority : List ℕ) (state : CoreState) (stages : List Stage) (turns : List ℕ) (after : CoreState) (last : List Stage) →
-        IsLegal n priority state → Drives n priority state stages turns after last → IsLegal n priority after }
+    ensures events { (n : ℕ) (priority : List ℕ) (state : CoreState) (stages : List Stage)
+        (turns : List ℕ) (after : CoreState) (last : List Stage) →
+        Drives n priority state stages turns after last → (events : List Event)
+        × HappenInTurn n priority state events after }
+    ensures legal { (n : ℕ) (priority : List ℕ) (state : CoreState) (stages : List Stage)
+        (turns : List ℕ) (after : CoreState) (last : List Stage) →
+        IsLegal n priority state → Drives n priority state stages turns after last →
+        IsLegal n priority after }
 {}
 
 /// A legal state stays legal without its workers, with any budget of at least as many pairs as
 /// are settled.
 pub fn phase_is_legal()
-    ensures { (n : ℕ) (priority : List ℕ) (state : CoreState) (budget : ℕ) → length state.journal ≤ budget → IsLegal n priority state →
-        IsLegal n priority (phase_state state.start_length state.basis state.journal budget state.limit) }
+    ensures { (n : ℕ) (priority : List ℕ) (state : CoreState) (budget : ℕ) →
+        length state.journal ≤ budget → IsLegal n priority state →
+        IsLegal n priority
+        (phase_state state.start_length state.basis state.journal budget state.limit) }
 {}
 
 /// In a legal state that is ended every pair of the basis is joined below, where the moves of the
 /// start were oriented.
 pub fn ended_is_joined()
     ensures oriented { (lattice : Lattice) (priority : List ℕ) (state : CoreState) →
-        IsLegal lattice.columns priority state → AreOrientedMoves lattice priority (start_of state) →
+        IsLegal lattice.columns priority state → AreOrientedMoves lattice priority
+        (start_of state) →
         AreOrientedMoves lattice priority state.basis }
     ensures joined { (lattice : Lattice) (priority : List ℕ) (state : CoreState) →
-        IsLegal lattice.columns priority state → AreOrientedMoves lattice priority (start_of state) → IsEnded state →
+        IsLegal lattice.columns priority state → AreOrientedMoves lattice priority
+        (start_of state) → IsEnded state →
         EveryPairJoined lattice.columns priority state.basis }
 {}
 
 /// Each text is one table, or has one fault, at one byte.
 pub fn each_text_is_a_table_or_has_a_fault()
     ensures either { (bytes : List ℕ) (limits : Limits) →
-        ((grid : Grid) × ReadsTable bytes limits grid) ⊎ ((fault : Fault) × (byte : ℕ) × HasFault bytes limits fault byte) }
+        ((grid : Grid) × ReadsTable bytes limits grid)
+        ⊎ ((fault : Fault) × (byte : ℕ) × HasFault bytes limits fault byte) }
     ensures not_both { (bytes : List ℕ) (limits : Limits) (grid : Grid) (fault : Fault) (byte : ℕ) →
         ReadsTable bytes limits grid → ¬ (HasFault bytes limits fault byte) }
     ensures one_table { (bytes : List ℕ) (limits : Limits) (grid other : Grid) →
         ReadsTable bytes limits grid → ReadsTable bytes limits other → grid ≡ other }
     ensures one_fault { (bytes : List ℕ) (limits : Limits) (fault other : Fault) (byte place : ℕ) →
-        HasFault bytes limits fault byte → HasFault bytes limits other place → (fault ≡ other) × (byte ≡ place) }
+        HasFault bytes limits fault byte → HasFault bytes limits other place → (fault ≡ other)
+        × (byte ≡ place) }
 {}

@@ -1,23 +1,17 @@
 //! The definitions that the other crates are proved against, over plain lists of integers, and
 //! their laws.
 //!
-//! The definitions stand in `specs/`, and `docs/DEFINITIONS.md` says each in plain words. A law
-//! or a worked example is the contract of a function without parameters.
+//! The definitions stand in `specs/`, and `docs/DEFINITIONS.md` says each in plain words. A law is
+//! the contract of a function without parameters.
 #![tactic(auto)]
 
 mod book_laws;
-mod examples;
 mod laws;
+mod lifting_laws;
 mod plain;
+mod tableau_laws;
 
 pub use book_laws::one_row_never_stops;
-pub use examples::{
-    answer_examples, book_examples, chain_examples, event_examples, free_column_examples,
-    grading_examples, grading_fault_examples, halt_examples, journal_examples, lattice_examples,
-    order_examples, overflow_examples, pair_examples, reduced_basis_examples, reduction_examples,
-    redundancy_examples, saturation_examples, state_examples, table_examples, table_fault_examples,
-    text_examples, token_examples, turn_examples, vector_examples, walk_examples,
-};
 pub use laws::{
     answer_from_components, answer_has_the_essential_moves, answer_is_unique, answer_of_one_row,
     answer_without_rows, below_is_strict_and_total, confluence_from_pairs, conn_drop, conn_free,
@@ -29,14 +23,25 @@ pub use laws::{
     phase_is_legal, reached_is_legal, reduced_basis_divides, reduced_basis_has_the_essential_moves,
     reduced_basis_is_markov, reduced_basis_is_unique, replay_goes_on, turns_happen_by_events,
 };
+pub use lifting_laws::lifted_fibres;
 pub use plain::{divides, is_below};
 use std::alloc::{AllocError, AllocFailed};
+pub use tableau_laws::{
+    entering_column_has_a_pivot, forbidding_end_forbids, graded_end_is_a_grading,
+    pivots_divide_exactly,
+};
 
 /// An entry of a lattice or of a move: from `-ENTRY_MAX` to `ENTRY_MAX`.
 pub type Entry = i128;
 
 /// The largest entry, 2^80 - 1.
 pub const ENTRY_MAX: Entry = 1208925819614629174706175;
+
+/// How many moves a basis may have.
+pub const MOVES_MAX: u32 = 65_536;
+
+/// How many workers a completion may have.
+pub const WORKERS_MAX: u32 = 64;
 
 /// There is no memory left.
 #[derive(Clone, Copy, Debug, PartialEq, Eq)]
@@ -53,6 +58,3 @@ impl<T: Drop> From<AllocFailed<T>> for NoMemory {
         NoMemory
     }
 }
-
-#[cfg(test)]
-mod tests;

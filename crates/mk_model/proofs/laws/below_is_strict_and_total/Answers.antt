@@ -1,5 +1,6 @@
 use Rattle.std.proofs.Common.{refl}
-use Rattle.mk_model.proofs.OrderLaws.{IsBelow-irreflexive, IsBelow-asymmetric, IsBelow-transitive, IsBelow-total_along, IsBelow-total_standard, standard_has}
+use Rattle.mk_model.proofs.OrderLaws.{IsBelow-irreflexive, IsBelow-asymmetric, IsBelow-transitive, IsBelow-total_along}
+use Rattle.mk_model.proofs.OrderLaws.{IsBelow-total_standard, standard_has}
 use Rattle.mk_model.proofs.laws.below_is_strict_and_total.Goals as goal
 
 pub returns : goal.returns

@@ -9,6 +9,8 @@ pub returns : goal.returns
 returns c = record {
   by_others = λ n rows columns moves others f connected. connected_by_others n rows columns moves others f connected;
   completed_column = λ lattice i priority columns moves o pairs connected. column_leaves o pairs columns connected;
-  joins_the_same = λ lattice priority moves o pairs x y walk. part_joined o (drop_redundant moves) (drop_redundant_part moves) (drop_redundant_covers moves) pairs x y (walk_from walk) (walk_to walk) walk;
-  pairs_stay_joined = λ lattice priority moves o pairs. part_pairs o (drop_redundant moves) (drop_redundant_part moves) (drop_redundant_covers moves) pairs;
+  joins_the_same = λ lattice priority moves o pairs x y walk. part_joined o (drop_redundant moves) (drop_redundant_part moves)
+      (drop_redundant_covers moves) pairs x y (walk_from walk) (walk_to walk) walk;
+  pairs_stay_joined = λ lattice priority moves o pairs. part_pairs o (drop_redundant moves) (drop_redundant_part moves)
+      (drop_redundant_covers moves) pairs;
 }

@@ -1,5 +1,0 @@
-use Rattle.mk_model.proofs.ChainExamples.{chain, too_early}
-use Rattle.mk_model.proofs.examples.chain_examples.Goals as goal
-
-pub returns : goal.returns
-returns c = record { chain = chain; too_early = too_early }

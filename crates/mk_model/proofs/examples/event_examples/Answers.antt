@@ -1,5 +1,0 @@
-use Rattle.mk_model.proofs.EventExamples.{until_ended, none_left}
-use Rattle.mk_model.proofs.examples.event_examples.Goals as goal
-
-pub returns : goal.returns
-returns c = record { until_ended = until_ended; none_left = none_left }

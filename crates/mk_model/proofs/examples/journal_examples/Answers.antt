@@ -1,5 +1,0 @@
-use Rattle.mk_model.proofs.JournalExamples.{in_order, exchanged}
-use Rattle.mk_model.proofs.examples.journal_examples.Goals as goal
-
-pub returns : goal.returns
-returns c = record { in_order = in_order; exchanged = exchanged }

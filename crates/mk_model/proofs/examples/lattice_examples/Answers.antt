@@ -1,6 +1,0 @@
-use Rattle.std.proofs.Common.{refl}
-use Rattle.mk_model.proofs.VectorExamples.{inside, outside, same, grading}
-use Rattle.mk_model.proofs.examples.lattice_examples.Goals as goal
-
-pub returns : goal.returns
-returns c = record { inside = inside; outside = outside; nonzero = refl; same = same; grading = grading }

@@ -1,5 +1,0 @@
-use Rattle.mk_model.proofs.OverflowExamples.{in_difference, in_step, in_tail_step}
-use Rattle.mk_model.proofs.examples.overflow_examples.Goals as goal
-
-pub returns : goal.returns
-returns c = record { difference = in_difference; step = in_step; tail_step = in_tail_step }

@@ -1,5 +1,0 @@
-use Rattle.mk_model.proofs.WalkExamples.{joined, apart, not_joined, not_markov}
-use Rattle.mk_model.proofs.examples.walk_examples.Goals as goal
-
-pub returns : goal.returns
-returns c = record { joined = joined; apart = apart; not_joined = not_joined; not_markov = not_markov }

@@ -5,8 +5,9 @@ use Rattle.std.specs.Prelude.{◌≡◌, ◌≢◌, ◌⊎◌, ℕ, ◌≤◌, L
 abbrev pub BeginsWith : {A : Type 0} → List A → List A → Type 0
 BeginsWith {A} ys xs = (zs : List A) × (ys ≡ xs ++ zs)
 
--- What is said of a state S: its length, and by number the claim, the entries and the notice; the list that only grows; what is fixed; and the whole.
--- `bears` says that a state bears out a notice, and `event` that the second state comes from the first by one event of that number.
+-- What is said of a state S: its length, and by number the claim, the entries and the notice; the list that only grows; what is fixed; and
+-- the whole. `bears` says that a state bears out a notice, and `event` that the second state comes from the first by one event of that
+-- number.
 pub record Meaning (S C E G F N W : Type 0) : Type 1 where
   pub len : S → ℕ
   pub claim : ℕ → S → Option C
@@ -31,4 +32,4 @@ module _ {S C E G F N W : Type 0} (m : Meaning S C E G F N W) where
     pub longer : (n : ℕ) (x y : S) → m.event n x y → m.len x ≤ m.len y
     pub same_fixed : (n : ℕ) (x y : S) → m.event n x y → m.fixed y ≡ m.fixed x
     pub still_bears : (n : ℕ) (x y : S) (t : N) → m.event n x y → m.bears t x → m.bears t y
-    pub tells : (n : ℕ) (x : S) (t : N) → m.notice n x ≡ Some t → m.bears t x
+    pub notice_holds : (n : ℕ) (x : S) (t : N) → m.notice n x ≡ Some t → m.bears t x

@@ -25,5 +25,5 @@ any_number_laws = record {
   longer = λ _ _ _ _. le_refl 0;
   same_fixed = λ _ _ _ _. refl;
   still_bears = λ _ _ _ _ _ _. tt;
-  tells = λ _ _ _ _. tt;
+  notice_holds = λ _ _ _ _. tt;
 }

@@ -1,5 +1,5 @@
 -- What clauses say of a seat and its table.
-use Rattle.std.specs.Prelude.{◌≡◌, ℕ}
+use Rattle.std.specs.Prelude.{◌≡◌}
 use Rattle.mk_turn.specs.declared.state.TurnState.{Ghosts}
 use Rattle.mk_turn.specs.declared.view.View.{View}
 use Rattle.mk_turn.specs.declared.table.TurnSeat.{TurnSeat}
@@ -17,7 +17,3 @@ module _ {S C E G F N W : Type 0} {state : Ghosts S C E G F N W} where
   -- they are seats of one table
   abbrev pub IsSameTable : TurnSeat S C E G F N W state → TurnSeat S C E G F N W state → Type 0
   IsSameTable s t = t.seat.table_id ≡ s.seat.table_id
-
-  -- what the last try that failed read of word 0, and 0 before any failed
-  abbrev pub failed_word : TurnSeat S C E G F N W state → ℕ
-  failed_word s = s.last_word

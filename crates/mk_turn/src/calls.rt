@@ -1,8 +1,11 @@
 //! The calls on the table of the turn.
-ghost use Rattle.std.specs.Prelude.{◌≡◌, ◌≢◌, ℕ, ◌+◌, ◌-◌, ◌^◌, ◌<◌, ◌≤◌, false, min, [], None, Some, IfOk, IfSome, IfNone};
-ghost use Rattle.mk_turn.specs.Turns.{Knows, beginning, one_if, took, missed, raised, one_more, newcomer, joining, Gave, AllJoined, Closes};
-ghost use Rattle.mk_turn.specs.Meanings.{Follows};
-ghost use Rattle.mk_turn.specs.Seats.{turn_view, IsSeatOf, IsSameTable, failed_word};
+ghost use Rattle.std.specs.Prelude.{◌≡◌, ◌≢◌, ℕ, ◌+◌, ◌-◌, ◌^◌, ◌<◌, ◌≤◌, false, min, [], None};
+ghost use Rattle.std.specs.Prelude.{Some, IfOk, IfSome, IfNone};
+ghost use Rattle.mk_turn.specs.Turns.{Knows, IsUnused, beginning, one_if, took, missed, CanRaise};
+ghost use Rattle.mk_turn.specs.Turns.{raised};
+ghost use Rattle.mk_turn.specs.Turns.{CanGive, Gave, one_more, newcomer, joining, AllJoined};
+ghost use Rattle.mk_turn.specs.Turns.{Closes};
+ghost use Rattle.mk_turn.specs.Seats.{turn_view, IsSeatOf, IsSameTable};
 
 use crate::plays::{Announce, Cut, Give, Glue, Look, Take};
 use crate::state::TurnState;
@@ -24,9 +27,12 @@ impl<S: TurnState> TurnTable<S> {
     where
         S: Drop,
         requires seats { 0 < seats }
-        requires length { (length ≡ S.meaning.len value) × (length < 2 ^ 32) }
-        requires fresh { (n : ℕ) → (S.meaning.claim n value ≡ None) × (S.meaning.entries n value ≡ []) }
-        ensures { IfOk result (λ t. IsSeatOf t.0 t.1 × (turn_view t.1 ≡ beginning S.meaning value seats)) }
+        requires length { length ≡ S.meaning.len value }
+        requires short { length < 2 ^ 32 }
+        requires fresh { (n : ℕ) → IsUnused S.meaning value n }
+        ensures table { IfOk result (λ (table, seat). IsSeatOf table seat) }
+        ensures view { IfOk result (λ (table, seat).
+            turn_view seat ≡ beginning S.meaning value seats) }
     {
         let about = About {
             value: Snapshot::of(&value),
@@ -54,8 +60,17 @@ impl<S: TurnState> TurnTable<S> {
         requires table { IsSeatOf self.now seat.old }
         requires free { (turn_view seat.old).taken ≡ None }
         ensures table { IsSameTable seat.old seat.new }
-        ensures some { IfSome result (λ x. (turn_view seat.new ≡ took S.meaning x (turn_view seat.old)) × Knows S.meaning x (turn_view seat.old) × ((turn_view seat.old).known ≤ S.meaning.len x) × (failed_word seat.new ≡ failed_word seat.old)) }
-        ensures none { IfNone result ((turn_view seat.new ≡ missed S.meaning (turn_view seat.old)) × (0 < failed_word seat.new) × (failed_word seat.new ≤ (turn_view seat.old).seats)) }
+        ensures some { IfSome result (λ x.
+            turn_view seat.new ≡ took S.meaning x (turn_view seat.old)) }
+        ensures knows { IfSome result (λ x. Knows S.meaning x (turn_view seat.old)) }
+        ensures known { IfSome result (λ x. (turn_view seat.old).known ≤ S.meaning.len x) }
+        ensures none { IfNone result (turn_view seat.new
+            ≡ missed S.meaning (turn_view seat.new).last_word (turn_view seat.old)) }
+        ensures held { IfNone result (0 < (turn_view seat.new).last_word) }
+        ensures of_a_seat { IfNone result
+            ((turn_view seat.new).last_word ≤ (turn_view seat.old).seats) }
+        ensures of_another { IfNone result
+            ((turn_view seat.new).last_word ≢ (turn_view seat.old).number + 1) }
     {
         let mine = seat.number as u64 + 1;
         let found = self
@@ -70,13 +85,14 @@ impl<S: TurnState> TurnTable<S> {
         self.table.shared.exchange(&mut seat.seat, 0, None)
     }
 
-    /// Gives the turn back with this value, which is the one that was taken, or comes from it by one event of the seat's number.
+    /// Gives the turn back with this value, which is the one that was taken, or comes from it by
+    /// one event of the seat's number.
     pub fn give(&self, seat: &mut TurnSeat<S>, value: S)
         requires table { IsSeatOf self.now seat.old }
-        requires turn { (x : S) × ((turn_view seat.old).taken ≡ Some x) × Follows S.meaning (turn_view seat.old).number x value × (S.meaning.len value ≡ S.meaning.len x + one_if (turn_view seat.old).raised) }
+        requires turn { CanGive S.meaning (turn_view seat.old) value }
         ensures table { IsSameTable seat.old seat.new }
-        ensures view { (x : S) → (turn_view seat.old).taken ≡ Some x → Gave S.meaning (turn_view seat.old) x value (turn_view seat.new) }
-        ensures word { failed_word seat.new ≡ failed_word seat.old }
+        ensures view { (x : S) → (turn_view seat.old).taken ≡ Some x →
+            Gave S.meaning (turn_view seat.old) x value (turn_view seat.new) }
     {
         let vacant = self.table.shared.exchange(&mut seat.seat, 0, Some(value));
         let None = vacant else { unreachable!() };
@@ -86,11 +102,10 @@ impl<S: TurnState> TurnTable<S> {
     /// Publishes the length that the value will have when the turn is given back.
     pub fn raise(&self, seat: &mut TurnSeat<S>, length: u64)
         requires table { IsSeatOf self.now seat.old }
-        requires turn { (x : S) × ((turn_view seat.old).taken ≡ Some x) × (length ≡ S.meaning.len x + 1) × (length < 2 ^ 32) }
+        requires turn { CanRaise S.meaning (turn_view seat.old) length }
         requires once { (turn_view seat.old).raised ≡ false }
         ensures table { IsSameTable seat.old seat.new }
         ensures view { turn_view seat.new ≡ raised S.meaning (turn_view seat.old) }
-        ensures word { failed_word seat.new ≡ failed_word seat.old }
     {
         self.table
             .shared
@@ -101,10 +116,11 @@ impl<S: TurnState> TurnTable<S> {
     pub fn length(&self, seat: &mut TurnSeat<S>) -> u64
         requires table { IsSeatOf self.now seat.old }
         ensures table { IsSameTable seat.old seat.new }
-        ensures length { ((turn_view seat.old).known ≤ result) × (result < 2 ^ 32) }
-        ensures held { (x : S) → (turn_view seat.old).taken ≡ Some x → result ≡ S.meaning.len x + one_if (turn_view seat.old).raised }
+        ensures known { (turn_view seat.old).known ≤ result }
+        ensures short { result < 2 ^ 32 }
+        ensures held { (x : S) → (turn_view seat.old).taken ≡ Some x →
+            result ≡ S.meaning.len x + one_if (turn_view seat.old).raised }
         ensures view { turn_view seat.new ≡ record (turn_view seat.old) { known = result } }
-        ensures word { failed_word seat.new ≡ failed_word seat.old }
     {
         self.table.shared.load::<Look>(&mut seat.seat, 1)
     }
@@ -112,11 +128,12 @@ impl<S: TurnState> TurnTable<S> {
     /// Makes one more seat, with the next number.
     pub fn split(&self, seat: &mut TurnSeat<S>) -> TurnSeat<S>
         requires table { IsSeatOf self.now seat.old }
-        requires first { ((turn_view seat.old).number ≡ 0) × ((turn_view seat.old).made < (turn_view seat.old).seats) }
-        ensures table { IsSameTable seat.old seat.new × IsSameTable seat.old result }
+        requires first { (turn_view seat.old).number ≡ 0 }
+        requires room { (turn_view seat.old).made < (turn_view seat.old).seats }
+        ensures table { IsSameTable seat.old seat.new }
+        ensures new_table { IsSameTable seat.old result }
         ensures view { turn_view seat.new ≡ one_more (turn_view seat.old) }
         ensures new { turn_view result ≡ newcomer (turn_view seat.old) }
-        ensures word { (failed_word seat.new ≡ failed_word seat.old) × (failed_word result ≡ 0) }
     {
         let number = seat.made;
         let other = self.table.shared.split_seat::<Cut>(&mut seat.seat);
@@ -132,12 +149,13 @@ impl<S: TurnState> TurnTable<S> {
 
     /// Joins a seat that has no claim into the first one, which keeps its entries and its notices.
     pub fn join(&self, seat: &mut TurnSeat<S>, other: TurnSeat<S>)
-        requires table { IsSeatOf self.now seat.old × IsSeatOf self.now other }
+        requires table { IsSeatOf self.now seat.old }
+        requires other_table { IsSeatOf self.now other }
         requires first { (turn_view seat.old).number ≡ 0 }
-        requires other { ((turn_view other).taken ≡ None) × ((turn_view other).claim ≡ None) }
+        requires away { (turn_view other).taken ≡ None }
+        requires idle { (turn_view other).claim ≡ None }
         ensures table { IsSameTable seat.old seat.new }
         ensures view { turn_view seat.new ≡ joining (turn_view seat.old) (turn_view other) }
-        ensures word { failed_word seat.new ≡ failed_word seat.old }
     {
         let TurnSeat {
             seat: theirs,
@@ -152,7 +170,9 @@ impl<S: TurnState> TurnTable<S> {
     /// The value at the end, once every seat that was made was joined.
     pub fn close(self, seat: TurnSeat<S>) -> S
         requires table { IsSeatOf self seat }
-        requires first { ((turn_view seat).number ≡ 0) × ((turn_view seat).taken ≡ None) × AllJoined (turn_view seat) }
+        requires first { (turn_view seat).number ≡ 0 }
+        requires away { (turn_view seat).taken ≡ None }
+        requires joined { AllJoined (turn_view seat) }
         ensures { Closes S.meaning result (turn_view seat) }
     {
         let TurnTable { table } = self;
@@ -179,9 +199,12 @@ impl<S: TurnState> TurnSeat<S> {
         self.misses
     }
 
-    /// What the seat's last try that failed read of word 0, which is one more than the number of the seat that had the turn. It is 0 before any failed.
+    /// What the seat's last try that failed read of word 0: one more than the number of the seat
+    /// that had the turn. It is 0 before any failed.
     pub fn last_word(&self) -> u64
-        ensures { (result ≡ failed_word self.now) × (result ≤ (turn_view self.now).seats) × (result ≢ (turn_view self.now).number + 1) }
+        ensures word { result ≡ (turn_view self.now).last_word }
+        ensures of_a_seat { result ≤ (turn_view self.now).seats }
+        ensures of_another { result ≢ (turn_view self.now).number + 1 }
     {
         self.last_word
     }

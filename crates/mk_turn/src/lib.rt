@@ -1,4 +1,5 @@
-//! The turn: a value that many threads change, one at a time and never waiting, each under a number of its own.
+//! The turn: a value that many threads change, one at a time and never waiting, each under a number
+//! of its own.
 #![tactic(auto)]
 
 mod calls;
@@ -9,7 +10,7 @@ mod view;
 
 pub use state::TurnState;
 pub use table::{TurnSeat, TurnTable};
-pub use view::{About, Rule, View};
+pub use view::{About, JoinedSeat, Rule, View};
 
 #[cfg(test)]
 mod tests;

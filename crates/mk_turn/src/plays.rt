@@ -1,5 +1,6 @@
-//! What each step on the table tells its seat.
-ghost use Rattle.mk_turn.specs.Turns.{tried, given, announced, looked, one_more, newcomer, joining, spent_view};
+//! What its seat knows after each step on the table.
+ghost use Rattle.mk_turn.specs.Turns.{Tries, given, announced, Looks, one_more, newcomer, joining};
+ghost use Rattle.mk_turn.specs.Turns.{spent_view};
 
 use crate::state::TurnState;
 use crate::view::Sight;
@@ -8,7 +9,7 @@ use atomic_table::{Join, Play, Split};
 pub(crate) struct Take;
 
 impl<S: TurnState> Play<Option<S>, Sight<S>> for Take {
-    ghost then = { tried S.meaning };
+    ghost then = { Tries S.meaning };
 }
 
 pub(crate) struct Give;
@@ -26,7 +27,7 @@ impl<S: TurnState> Play<Option<S>, Sight<S>> for Announce {
 pub(crate) struct Look;
 
 impl<S: TurnState> Play<Option<S>, Sight<S>> for Look {
-    ghost then = { looked S.meaning };
+    ghost then = { Looks S.meaning };
 }
 
 pub(crate) struct Cut;

@@ -28,5 +28,7 @@ pub struct TurnSeat<S: TurnState> {
     ghost hand: { seat.me.1 ≡ in_hand seat.me.0.taken },
     ghost missed: { misses ≡ min seat.me.0.misses (2 ^ 64 - 1) },
     ghost room: { seat.me.0.seats < 2 ^ 32 },
-    ghost word: { (last_word ≤ seat.me.0.seats) × (last_word ≢ number + 1) },
+    ghost word: { last_word ≡ seat.me.0.last_word },
+    ghost of_a_seat: { last_word ≤ seat.me.0.seats },
+    ghost of_another: { last_word ≢ number + 1 },
 }

@@ -71,8 +71,11 @@ fn what_was_given_last_comes_out_at_the_end(rt: HostRuntime) -> Result<(), Fail>
 
 // Tries a thousand times to add 1, and tells how often it did.
 fn add_often(table: &TurnTable<u64>, seat: TurnSeat<u64>) -> (u64, TurnSeat<u64>)
-    requires { IsSeatOf table.now seat × ((turn_view seat).taken ≡ None) }
-    ensures { (result.0 ≤ 1000) × IsSeatOf table.now result.1 × ((turn_view result.1).taken ≡ None) }
+    requires table { IsSeatOf table.now seat }
+    requires away { (turn_view seat).taken ≡ None }
+    ensures few { result.0 ≤ 1000 }
+    ensures table { IsSeatOf table.now result.1 }
+    ensures away { (turn_view result.1).taken ≡ None }
 {
     let mut seat = seat;
     let mut done = 0;

@@ -26,11 +26,18 @@ pub struct View<S, C, E, G, F, N, W> {
     /// Of the value that the seat took before its last give.
     pub last: Option<W>,
     pub misses: u64,
+    /// What the last try that failed read of word 0, and 0 before any failed.
+    pub last_word: u64,
     /// How many seats the table has room for.
     pub seats: u64,
     pub made: u64,
-    /// The numbers of the seats that were joined, each with its entries.
-    pub joined: LinkedList<(u64, LinkedList<E>)>,
+    pub joined: LinkedList<JoinedSeat<E>>,
+}
+
+/// What the first seat keeps of one that it joined. No value of it is made.
+pub struct JoinedSeat<E> {
+    pub number: u64,
+    pub entries: LinkedList<E>,
 }
 
 pub type Sight<S> = View<
@@ -43,7 +50,7 @@ pub type Sight<S> = View<
     <S as TurnState>::Whole,
 >;
 
-/// What a table is told when it is made.
+/// What a table is made with.
 #[derive(Drop)]
 pub struct About<S> {
     pub value: Snapshot<S>,

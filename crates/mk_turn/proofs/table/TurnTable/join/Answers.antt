@@ -7,7 +7,7 @@ pub join_seat-requires : goal.join_seat-requires
 join_seat-requires g c = (
   search rules,
   search rules,
-  c.args.other.hand ∙ ap in_hand c.requires.other.0,
+  c.args.other.hand ∙ ap in_hand c.requires.away,
   search rules,
-  joins g.S.TurnState.meaning g.S.TurnState.laws _ _ _ _ _ c.args.seat.now.awake c.requires.first c.args.other.awake c.requires.other.0 c.requires.other.1,
+  joins g.S.TurnState.meaning g.S.TurnState.laws _ _ _ _ _ c.args.seat.now.awake c.requires.first c.args.other.awake c.requires.away c.requires.idle,
 )

@@ -11,5 +11,5 @@ compare_exchange-found-requires g c = (
 )
 
 pub exchange-requires : goal.exchange-requires
-exchange-requires g c = let t = c.compare_exchange-found.ensures.2.0 (search rules) in
-    (search rules, (Some t.0, ap (λ z. z.1) t.1 ∙ ap (λ cs. (0, Some t.0) ∷ rest cs) (sym (ap (λ z. z.1) t.1))))
+exchange-requires g c = let t = c.compare_exchange-found.ensures.2.hits (search rules) in
+    (search rules, (Some t.value, ap (λ z. z.1) t.taken ∙ ap (λ cs. (0, Some t.value) ∷ rest cs) (sym (ap (λ z. z.1) t.taken))))

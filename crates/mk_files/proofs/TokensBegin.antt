@@ -7,7 +7,7 @@ use Rattle.std.proofs.Math.Seq.{take-add}
 use Rattle.mk_model.specs.Tables.{is_space, begins_with_space, with_first, tokens}
 use Rattle.mk_model.proofs.TokenCuts.{tokens_by, tokens-append, tokens-white, tokens-white_all}
 use Rattle.mk_files.specs.declared.tokens.Token.{Token}
-use Rattle.mk_files.specs.Tokens.{IsRun, IsTokenCut, IsNextToken}
+use Rattle.mk_files.specs.Tokens.{IsStretch, IsTokenCut, IsNextToken}
 
 not_false : (b : Bool) → b ≢ false → b ≡ true
 not_false true h = refl
@@ -43,7 +43,7 @@ begins_at k bytes h = elim (cases_lt k (length bytes)) [
   | inr all ↦ ap begins_with_space (drop_all k bytes all)
 ]
 
-word_run : (len : ℕ) (bytes : List ℕ) → 0 < length bytes → is_space (get_or bytes 0 0) ≡ false → IsRun bytes false len → (begins_with_space (drop len bytes) ≡ true) × (tokens bytes ≡ take len bytes ∷ tokens (drop len bytes))
+word_run : (len : ℕ) (bytes : List ℕ) → 0 < length bytes → is_space (get_or bytes 0 0) ≡ false → IsStretch bytes false len → (begins_with_space (drop len bytes) ≡ true) × (tokens bytes ≡ take len bytes ∷ tokens (drop len bytes))
 word_run zero bytes some word run = absurd (run.longest some word)
 word_run (suc k) bytes some word run =
     let ends : begins_with_space (drop (suc k) bytes) ≡ true = begins_at (suc k) bytes (λ more. not_false _ (run.longest more)) in
@@ -61,7 +61,7 @@ cut_at bytes k within ends = record {
 }
 
 -- white space behind a cut has no token
-white_behind : (bytes : List ℕ) (from white : ℕ) → IsRun (drop from bytes) true white → tokens (take (from + white) bytes) ≡ tokens (take from bytes)
+white_behind : (bytes : List ℕ) (from white : ℕ) → IsStretch (drop from bytes) true white → tokens (take (from + white) bytes) ≡ tokens (take from bytes)
 white_behind bytes from white run =
     ap tokens (take-add from white bytes)
     ∙ tokens-append (take from bytes) (take white (drop from bytes)) (begins (take white (drop from bytes)) run.same)
@@ -73,11 +73,11 @@ white_behind bytes from white run =
     begins (b ∷ space) all = All-head (λ c. is_space c ≡ true) b space all
 
 -- a text of which only white space is left has no more tokens
-pub no_token : (bytes : List ℕ) (from white : ℕ) → IsRun (drop from bytes) true white → from + white ≡ length bytes → tokens bytes ≡ tokens (take from bytes)
+pub no_token : (bytes : List ℕ) (from white : ℕ) → IsStretch (drop from bytes) true white → from + white ≡ length bytes → tokens bytes ≡ tokens (take from bytes)
 no_token bytes from white run all =
     ap tokens (sym (take_all (from + white) bytes (omega arith))) ∙ white_behind bytes from white run
 
-pub next : (bytes : List ℕ) (from white len : ℕ) (token : Token) → IsTokenCut bytes from → IsRun (drop from bytes) true white → from + white < length bytes → token.start ≡ from + white → IsRun (drop token.start bytes) false len → token.end ≡ token.start + len → IsNextToken bytes from token
+pub next : (bytes : List ℕ) (from white len : ℕ) (token : Token) → IsTokenCut bytes from → IsStretch (drop from bytes) true white → from + white < length bytes → token.start ≡ from + white → IsStretch (drop token.start bytes) false len → token.end ≡ token.start + len → IsNextToken bytes from token
 next bytes from white len token cut space more is_start word is_end =
     let start = token.start in
     let end = token.end in

@@ -5,7 +5,7 @@ use Rattle.mk_model.specs.TableFaults.{TokenAt}
 use Rattle.mk_files.specs.declared.tokens.Token.{Token}
 
 -- so many bytes at the front are white space, or are not, and the byte behind them differs
-pub record IsRun (bytes : List ℕ) (white : Bool) (len : ℕ) : Type 0 where
+pub record IsStretch (bytes : List ℕ) (white : Bool) (len : ℕ) : Type 0 where
   pub within : len ≤ length bytes
   pub same : All (λ b. is_space b ≡ white) (take len bytes)
   pub longest : len < length bytes → is_space (slice_index bytes len) ≢ white

@@ -14,5 +14,6 @@ mod tokens;
 
 pub use bounds::{Bounds, MAX_COLUMNS, MAX_ROWS};
 pub use fault::{Place, TableFault};
+pub use numbers::{BEYOND, magnitude};
 pub use reading::read_table;
 pub use table::Table;

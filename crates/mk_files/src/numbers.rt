@@ -18,10 +18,10 @@ pub enum NumberFault {
 }
 
 /// The least number that is larger than each entry.
-const BEYOND: u128 = ENTRY_MAX as u128 + 1;
+pub const BEYOND: u128 = ENTRY_MAX as u128 + 1;
 
-/// The number that the digits write, or `BEYOND` where it is larger.
-fn magnitude(digits: &[u8]) -> Option<u128>
+/// The number that the digits write, or `BEYOND` where it is larger: none where they aren't digits, one or more.
+pub fn magnitude(digits: &[u8]) -> Option<u128>
     ensures found { IfSome result
         (λ n. AreDigits digits.now × (n ≡ min (digits_value 10 digits.now) BEYOND)) }
     ensures none { IfNone result (AreDigits digits.now → ⊥) }

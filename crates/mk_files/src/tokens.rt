@@ -1,6 +1,6 @@
 ghost use Rattle.std.specs.Prelude.{◌≡◌, take, MatchOption};
 ghost use Rattle.mk_model.specs.Tables.{is_space, tokens};
-ghost use Rattle.mk_files.specs.Tokens.{IsRun, IsTokenCut, IsNextToken};
+ghost use Rattle.mk_files.specs.Tokens.{IsStretch, IsTokenCut, IsNextToken};
 
 /// A token of a text: its first byte, and the byte behind its last.
 #[derive(Clone, Copy)]
@@ -17,8 +17,8 @@ fn is_white(byte: u8) -> bool
 }
 
 /// How many bytes at the front are white space, or how many are not.
-fn run_len(bytes: &[u8], white: bool) -> usize
-    ensures { IsRun bytes.now white result }
+fn stretch_len(bytes: &[u8], white: bool) -> usize
+    ensures { IsStretch bytes.now white result }
 {
     for (i, byte) in bytes.iter().enumerate() {
         if is_white(*byte) != white {
@@ -35,10 +35,10 @@ pub fn next_token(bytes: &[u8], from: usize) -> Option<Token>
         (tokens bytes.now ≡ tokens (take from bytes.now))
         (IsNextToken bytes.now from) }
 {
-    let start = from + run_len(&bytes[from..], true);
+    let start = from + stretch_len(&bytes[from..], true);
     if start == bytes.len() {
         return None;
     }
-    let end = start + run_len(&bytes[start..], false);
+    let end = start + stretch_len(&bytes[start..], false);
     Some(Token { start, end })
 }

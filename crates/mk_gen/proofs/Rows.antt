@@ -3,14 +3,15 @@ use Rattle.std.proofs.Common.{◌≡◌, ℕ, zero, suc, ◌+◌, ◌-◌, ◌*�
 use Rattle.std.specs.List.{flat_map, range_with_len}
 use Rattle.std.proofs.Math.Nat.{mul-le-mul}
 use Rattle.std.proofs.Math.Seq.{take-append_seam, drop-append_seam}
-use Rattle.std.proofs.lemmas.List.{length-map, length-drop, length-take-le, drop_more}
-use Rattle.std.proofs.lemmas.List.Elements.{All-nil, All-cons, All-head, All-tail, All-append, All-map, All-take, All-drop}
+use Rattle.std.proofs.lemmas.List.{length-map, drop_more}
+use Rattle.std.proofs.lemmas.List.Elements.{All-nil, All-cons, All-head, All-tail, All-append, All-map}
 use Rattle.std.proofs.lemmas.List.Folds.{flat_map-map}
 use Rattle.std.proofs.lemmas.List.FromFn.{length-range_with_len}
 use Rattle.std.proofs.lemmas.Grind.{flat_map-append}
 use Rattle.mk_model.specs.Tables.{Grid, cut, rows_of}
 use Rattle.mk_model.specs.Vectors.{IsEntry, scale}
 use Rattle.mk_model.proofs.VectorAlgebra.{length-scale}
+use Rattle.mk_model.proofs.TableRows.{length-rows_of, rows_columns, rows_entries}
 use Rattle.mk_files.specs.Table.{IsTable}
 use Rattle.mk_gen.specs.Models.{neighbour_entry, times_difference, AreModelSizes, model_rows, cells, model_grid}
 use Rattle.mk_gen.specs.Wider.{wider}
@@ -44,13 +45,6 @@ same_pieces f g h (x ∷ xs) = ap (λ t. t ++ flat_map f xs) (h x) ∙ ap (λ t.
 abbrev pub grid_of : ℕ → ℕ → List ℤ → Grid
 grid_of rows columns entries = record { rows = rows; columns = columns; entries = entries }
 
-length-cut : (rows columns : ℕ) (entries : List ℤ) → length (cut rows columns entries) ≡ rows
-length-cut zero columns entries = refl
-length-cut (suc rows) columns entries = ap suc (length-cut rows columns (drop columns entries))
-
-pub length-rows_of : (grid : Grid) → length (rows_of grid) ≡ grid.rows
-length-rows_of grid = length-cut grid.rows grid.columns grid.entries
-
 -- rows that stand one after another
 pub cut_rows : (columns : ℕ) (rows : List (List ℤ)) → All (λ row. length row ≡ columns) rows → cut (length rows) columns (flat_map (λ row. row) rows) ≡ rows
 cut_rows columns [] h = refl
@@ -79,25 +73,12 @@ unfolding times_difference
 entries_times_difference n s row h =
     All-pieces IsEntry (λ p. scale (neighbour_entry s p) row) (range_with_len 0 n) (λ k d l. entries_times _ (difference_is_unit s _) row h)
 
--- each row of a table has its columns, and entries
-cut_columns : (rows columns : ℕ) (entries : List ℤ) → length entries ≡ rows * columns → All (λ row. length row ≡ columns) (cut rows columns entries)
-cut_columns zero columns entries e = All-nil (λ row. length row ≡ columns)
-cut_columns (suc rows) columns entries e =
-    let long : length entries ≡ columns + rows * columns = omega (arith, e) in
-    let rest : length (drop columns entries) ≡ rows * columns = omega (arith, length-drop columns entries) in
-    All-cons (λ row. length row ≡ columns) (take columns entries) (cut rows columns (drop columns entries)) (length-take-le columns entries (omega arith)) (cut_columns rows columns (drop columns entries) rest)
-
-cut_entries : (rows columns : ℕ) (entries : List ℤ) → All IsEntry entries → All (All IsEntry) (cut rows columns entries)
-cut_entries zero columns entries h = All-nil (All IsEntry)
-cut_entries (suc rows) columns entries h =
-    All-cons (All IsEntry) (take columns entries) (cut rows columns (drop columns entries)) (All-take IsEntry columns entries h) (cut_entries rows columns (drop columns entries) (All-drop IsEntry columns entries h))
-
 pub wider_is_table : (n : ℕ) (grid : Grid) → IsTable grid → (n - 1) * grid.rows ≤ 4096 → n * grid.columns ≤ 512 → IsTable (wider n grid)
 wider_is_table n grid h few narrow =
     let rows = rows_of grid in
     let one_difference : (s : ℕ) → length (flat_map (times_difference n s) rows) ≡ grid.rows * (n * grid.columns) =
     λ s. length-pieces (times_difference n s) (n * grid.columns) rows
-    (λ k d l. length-times_difference n s _ ∙ ap (λ m. n * m) (cut_columns grid.rows grid.columns grid.entries h.filled k d l))
+    (λ k d l. length-times_difference n s _ ∙ ap (λ m. n * m) (rows_columns grid h.filled k d l))
     ∙ ap (λ m. m * (n * grid.columns)) (length-rows_of grid) in
     record {
       rows = few;
@@ -107,7 +88,7 @@ wider_is_table n grid h few narrow =
           ∙ ap (λ m. m * (grid.rows * (n * grid.columns))) (length-range_with_len 0 (n - 1)) ∙ omega arith;
       entries =
           All-pieces IsEntry (λ s. flat_map (times_difference n s) rows) (range_with_len 0 (n - 1))
-          (λ k d l. All-pieces IsEntry (times_difference n _) rows (λ i e j. entries_times_difference n _ _ (cut_entries grid.rows grid.columns grid.entries h.entries i e j)));
+          (λ k d l. All-pieces IsEntry (times_difference n _) rows (λ i e j. entries_times_difference n _ _ (rows_entries IsEntry grid h.entries i e j)));
     }
 
 -- ---- the rows of a model

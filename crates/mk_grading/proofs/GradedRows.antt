@@ -9,7 +9,7 @@ use Rattle.mk_model.specs.Lattices.{ones}
 use Rattle.mk_model.specs.Tables.{Grid, rows_of}
 use Rattle.mk_model.specs.ChosenGradings.{IsGradingOf, IsColumnWeight, IsOrthogonal, FitsMatrix, FitsGrade, nonnegative_rows, sum_of_rows, matrix_sum}
 use Rattle.mk_model.proofs.VectorAlgebra.{weight-add, weight-zeros}
-use Rattle.mk_grading.proofs.RowsRead.{rows_columns}
+use Rattle.mk_model.proofs.TableRows.{rows_columns}
 use Rattle.mk_grading.proofs.RowsSummed.{is_nonnegative}
 
 weight_comm : (x y : List ℤ) → weight x y ≡ weight y x

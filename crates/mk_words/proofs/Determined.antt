@@ -22,23 +22,23 @@ record GoSame (words : List Word) : Type 0 where
 any_same : (w : Word) (words : List Word) (one other : List Piece) → GoSame words → GoesOn (w ∷ words) Any one → GoesOn (w ∷ words) Any other → one ≡ other
 unfolding GoesOn
 any_same w words one other rest (inl p) h =
-    let there = whole_end w words other p.0 h in rest.same Plain one there.0 p.1 there.2 ∙ sym there.1
+    let there = whole_end w words other p.is h in rest.same Plain one there.more p.rest there.rest ∙ sym there.are
 any_same w words one other rest (inr (inl p)) h =
-    let there = whole_bare p.0 w words other p.1 h in rest.same (Value p.0) one there.0 p.2 there.2 ∙ sym there.1
+    let there = whole_bare p.setting w words other p.is h in rest.same (Value p.setting) one there.more p.rest there.rest ∙ sym there.are
 any_same w words one other rest (inr (inr (inl p))) h =
-    let there = whole_both p.0 p.1 w words other p.3 h in
-    p.4 ∙ ap (λ x. option p.0 p.1 ∷ x) (rest.same Any p.2 there.0 p.5 there.2) ∙ sym there.1
+    let there = whole_both p.setting p.value w words other p.is h in
+    p.first.are ∙ ap (λ x. option p.setting p.value ∷ x) (rest.same Any p.first.more there.more p.first.rest there.rest) ∙ sym there.are
 any_same w words one other rest (inr (inr (inr p))) h =
-    let there = whole_word w words other p.0 h in
-    p.1.1 ∙ ap (λ x. plain w ∷ x) (rest.same Any p.1.0 there.0 p.1.2 there.2) ∙ sym there.1
+    let there = whole_word w words other p.isnt h in
+    p.first.are ∙ ap (λ x. plain w ∷ x) (rest.same Any p.first.more there.more p.first.rest there.rest) ∙ sym there.are
 
 step_same : (w : Word) (words : List Word) (before : Next) (one other : List Piece) → GoSame words → GoesOn (w ∷ words) before one → GoesOn (w ∷ words) before other → one ≡ other
 unfolding GoesOn
 step_same w words Any one other rest g h = any_same w words one other rest g h
 step_same w words (Value s) one other rest g h =
-    g.1.1 ∙ ap (λ x. option s w ∷ x) (rest.same Any g.1.0 h.1.0 g.1.2 h.1.2) ∙ sym h.1.1
+    g.first.are ∙ ap (λ x. option s w ∷ x) (rest.same Any g.first.more h.first.more g.first.rest h.first.rest) ∙ sym h.first.are
 step_same w words Plain one other rest g h =
-    g.1 ∙ ap (λ x. plain w ∷ x) (rest.same Plain g.0 h.0 g.2 h.2) ∙ sym h.1
+    g.are ∙ ap (λ x. plain w ∷ x) (rest.same Plain g.more h.more g.rest h.rest) ∙ sym h.are
 
 end_same : (before : Next) (one other : List Piece) → GoesOn [] before one → GoesOn [] before other → one ≡ other
 unfolding GoesOn

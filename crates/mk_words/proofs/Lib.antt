@@ -8,6 +8,5 @@ pub mod Rows
 pub mod Turns
 pub mod Parses
 pub mod Ends
-pub mod DigitsRead
 pub mod SizesRead
 pub mod Determined

@@ -10,38 +10,38 @@ use Rattle.mk_words.proofs.Reading.{Next, Any, Value, Plain, GoesOn, Takes, HasR
 plain_goes : (words : List Word) → GoesOn words Plain (map plain words)
 unfolding GoesOn
 plain_goes [] = refl
-plain_goes (w ∷ words) = (map plain words, refl, plain_goes words)
+plain_goes (w ∷ words) = record { more = map plain words; are = refl; rest = plain_goes words }
 
 plain_only : (words : List Word) (pieces : List Piece) → GoesOn words Plain pieces → pieces ≡ map plain words
 unfolding GoesOn
 plain_only [] pieces h = h
-plain_only (w ∷ words) pieces h = h.1 ∙ ap (λ x. plain w ∷ x) (plain_only words h.0 h.2)
+plain_only (w ∷ words) pieces h = h.are ∙ ap (λ x. plain w ∷ x) (plain_only words h.more h.rest)
 
 end_goes : (later : Option (List Word)) → GoesOn (behind later) Any (plain_behind later)
 unfolding GoesOn
 end_goes None = refl
-end_goes (Some later) = inl (refl, plain_goes later)
+end_goes (Some later) = inl (record { is = refl; rest = plain_goes later })
 
 -- a piece in front
 option_goes : (s : Setting) (v : Word) (first rest : List Word) (more : List Piece) → IsWritten (option s v) first → GoesOn rest Any more → GoesOn (first ++ rest) Any (option s v ∷ more)
 unfolding GoesOn
 option_goes s v first rest more (inl p) h =
-    subst (λ (f : List Word). GoesOn (f ++ rest) Any (option s v ∷ more)) (sym p.0) (inr (inl (s, refl, (p.1, (more, refl, h)))))
+    subst (λ (f : List Word). GoesOn (f ++ rest) Any (option s v ∷ more)) (sym p.0) (inr (inl (record { setting = s; is = refl; rest = record { isnt = p.1; first = record { more = more; are = refl; rest = h } } })))
 option_goes s v first rest more (inr p) h =
-    subst (λ (f : List Word). GoesOn (f ++ rest) Any (option s v ∷ more)) (sym p) (inr (inr (inl (s, v, more, refl, refl, h))))
+    subst (λ (f : List Word). GoesOn (f ++ rest) Any (option s v ∷ more)) (sym p) (inr (inr (inl (record { setting = s; value = v; is = refl; first = record { more = more; are = refl; rest = h } }))))
 
 piece_goes : (piece : Piece) (first rest : List Word) (more : List Piece) → IsWritten piece first → GoesOn rest Any more → GoesOn (first ++ rest) Any (piece ∷ more)
 unfolding GoesOn
 piece_goes (option s v) first rest more p h = option_goes s v first rest more p h
 piece_goes (plain w) first rest more p h =
-    subst (λ (f : List Word). GoesOn (f ++ rest) Any (plain w ∷ more)) (sym p.0) (inr (inr (inr (p.1, (more, refl, h)))))
+    subst (λ (f : List Word). GoesOn (f ++ rest) Any (plain w ∷ more)) (sym p.0) (inr (inr (inr (record { isnt = p.1; first = record { more = more; are = refl; rest = h } }))))
 
 front_goes : (before : List Piece) (front : List Word) (later : Option (List Word)) → AreWritten before front → GoesOn (front ++ behind later) Any (before ++ plain_behind later)
 unfolding AreWritten
 front_goes [] front later h = subst (λ (f : List Word). GoesOn (f ++ behind later) Any (plain_behind later)) (sym h) (end_goes later)
 front_goes (piece ∷ before) front later h =
-    let goes = piece_goes piece h.0 (h.1 ++ behind later) (before ++ plain_behind later) h.3 (front_goes before h.1 later h.4) in
-    let same : front ++ behind later ≡ h.0 ++ (h.1 ++ behind later) = ap (λ f. f ++ behind later) h.2 ∙ append_assoc h.0 h.1 (behind later) in
+    let goes = piece_goes piece h.first (h.rest ++ behind later) (before ++ plain_behind later) h.written (front_goes before h.rest later h.others) in
+    let same : front ++ behind later ≡ h.first ++ (h.rest ++ behind later) = ap (λ f. f ++ behind later) h.whole ∙ append_assoc h.first h.rest (behind later) in
     subst (λ (f : List Word). GoesOn f Any (piece ∷ (before ++ plain_behind later))) (sym same) goes
 
 -- a line is read
@@ -64,7 +64,7 @@ line_more piece first rest words more pieces written e p line = record {
   front = first ++ line.front;
   before = piece ∷ line.before;
   later = line.later;
-  written = (first, line.front, refl, written, line.written);
+  written = record { first = first; rest = line.front; whole = refl; written = written; others = line.written };
   whole = e ∙ ap (λ x. first ++ x) line.whole ∙ sym (append_assoc first line.front (behind line.later));
   all = p ∙ ap (λ x. piece ∷ x) line.all;
 }
@@ -76,17 +76,17 @@ record AreLines (words : List Word) : Type 0 where
 
 any_line : (w : Word) (words : List Word) (pieces : List Piece) → AreLines words → GoesOn (w ∷ words) Any pieces → IsCommandLine (w ∷ words) pieces
 unfolding GoesOn
-any_line w words pieces rest (inl p) = end_line w words pieces p.0 (plain_only words pieces p.1)
-any_line w words pieces rest (inr (inl p)) = rest.value p.0 w pieces p.1 p.2
+any_line w words pieces rest (inl p) = end_line w words pieces p.is (plain_only words pieces p.rest)
+any_line w words pieces rest (inr (inl p)) = rest.value p.setting w pieces p.is p.rest
 any_line w words pieces rest (inr (inr (inl p))) =
-    line_more (option p.0 p.1) (w ∷ []) words (w ∷ words) p.2 pieces (inr (ap (λ x. x ∷ []) p.3)) refl p.4 (rest.any p.2 p.5)
+    line_more (option p.setting p.value) (w ∷ []) words (w ∷ words) p.first.more pieces (inr (ap (λ x. x ∷ []) p.is)) refl p.first.are (rest.any p.first.more p.first.rest)
 any_line w words pieces rest (inr (inr (inr p))) =
-    line_more (plain w) (w ∷ []) words (w ∷ words) p.1.0 pieces (refl, p.0) refl p.1.1 (rest.any p.1.0 p.1.2)
+    line_more (plain w) (w ∷ []) words (w ∷ words) p.first.more pieces (refl, p.isnt) refl p.first.are (rest.any p.first.more p.first.rest)
 
 value_line : (s : Setting) (name v : Word) (words : List Word) (pieces : List Piece) → AreLines words → name ≡ option_name s → GoesOn (v ∷ words) (Value s) pieces → IsCommandLine (name ∷ v ∷ words) pieces
 unfolding GoesOn
 value_line s name v words pieces rest e h =
-    line_more (option s v) (name ∷ v ∷ []) words (name ∷ v ∷ words) h.1.0 pieces (inl (ap (λ x. x ∷ v ∷ []) e, h.0)) refl h.1.1 (rest.any h.1.0 h.1.2)
+    line_more (option s v) (name ∷ v ∷ []) words (name ∷ v ∷ words) h.first.more pieces (inl (ap (λ x. x ∷ v ∷ []) e, h.isnt)) refl h.first.are (rest.any h.first.more h.first.rest)
 
 no_value : (s : Setting) (pieces : List Piece) → GoesOn [] (Value s) pieces → ⊥
 unfolding GoesOn
@@ -115,21 +115,21 @@ read_more words done w rest before behind pieces read takes = record {
   sound = λ more h. rw append_assoc (read.sound (pieces ++ more) (takes.sound rest more h));
   whole = λ all h.
       let there = read.whole all h in
-      let next = takes.whole rest there.0 there.2 in
-      (next.0, there.1 ∙ ap (λ x. done ++ x) next.1 ∙ sym (append_assoc done pieces next.0), next.2);
+      let next = takes.whole rest there.more there.rest in
+      record { more = next.more; are = there.are ∙ ap (λ x. done ++ x) next.are ∙ sym (append_assoc done pieces next.more); rest = next.rest };
 }
 
 pub read_none : (words : List Word) → HasRead words [] words Any
-read_none words = record { sound = λ more h. h; whole = λ all h. (all, refl, h) }
+read_none words = record { sound = λ more h. h; whole = λ all h. record { more = all; are = refl; rest = h } }
 
 -- a word that nothing can be made of, and an option without its value
 pub stopped : (words : List Word) (done : List Piece) (w : Word) (rest : List Word) (before : Next) → HasRead words done (w ∷ rest) before → ((more : List Word) (all : List Piece) → GoesOn (w ∷ more) before all → ⊥) → IsNoLine words
 stopped words done w rest before read stops pieces line =
-    let there = read.whole pieces (line_goes words pieces line) in stops rest there.0 there.2
+    let there = read.whole pieces (line_goes words pieces line) in stops rest there.more there.rest
 
 pub stopped_at_end : (words : List Word) (done : List Piece) (s : Setting) → HasRead words done [] (Value s) → IsNoLine words
 stopped_at_end words done s read pieces line =
-    let there = read.whole pieces (line_goes words pieces line) in no_value s there.0 there.2
+    let there = read.whole pieces (line_goes words pieces line) in no_value s there.more there.rest
 
 -- the words are at their end
 ended : (words : List Word) (done : List Piece) (behind : Next) → HasRead words done [] behind → GoesOn [] behind [] → ((more : List Piece) → GoesOn [] behind more → more ≡ []) → IsOnlyLine words done
@@ -137,7 +137,7 @@ ended words done behind read goes only = record {
   line = goes_is_line words done (subst (λ (p : List Piece). GoesOn words Any p) (append-nil done) (read.sound [] goes));
   alone = λ other line.
       let there = read.whole other (line_goes words other line) in
-      there.1 ∙ ap (λ x. done ++ x) (only there.0 there.2) ∙ append-nil done;
+      there.are ∙ ap (λ x. done ++ x) (only there.more there.rest) ∙ append-nil done;
 }
 
 pub ended_any : (words : List Word) (done : List Piece) → HasRead words done [] Any → IsOnlyLine words done

@@ -53,7 +53,7 @@ next_of true = Plain
 not_given : (words : List Word) (done : List Piece) (rest : List Word) (behind : Next) → HasRead words done rest behind → Repeats done → AreNotGiven words
 not_given words done rest behind read again pieces line =
     let there = read.whole pieces (line_goes words pieces line) in
-    subst (λ (p : List Piece). AreRepeated p) (sym there.1) (repeated (done ++ there.0) (repeats_more done there.0 again))
+    subst (λ (p : List Piece). AreRepeated p) (sym there.are) (repeated (done ++ there.more) (repeats_more done there.more again))
 
 no_line : (words : List Word) → IsNoLine words → AreNotGiven words
 no_line words none pieces line = absurd (none pieces line)

@@ -38,17 +38,23 @@ lacks_cons : (x : ℕ) (r : List ℕ) → (x == 61) ≡ false → Lacks 61 r →
 lacks_cons x r e h zero lt is = eqb-false x 61 e is
 lacks_cons x r e h (suc i) lt is = h i (omega arith) is
 
+record IsCutThere (r : List ℕ) : Type 0 where
+  front : List ℕ
+  behind : List ℕ
+  none : Lacks 61 front
+  whole : r ≡ front ++ 61 ∷ behind
+
 abbrev Cut : List ℕ → Type 0
-Cut r = Lacks 61 r ⊎ ((a : List ℕ) × (b : List ℕ) × Lacks 61 a × (r ≡ a ++ 61 ∷ b))
+Cut r = Lacks 61 r ⊎ IsCutThere r
 
 cut : (r : List ℕ) → Cut r
 cut [] = inl (λ i lt. absurd (omega arith))
 cut (x ∷ r) = go (x == 61) refl (cut r)
   where
     go : (t : Bool) → (x == 61) ≡ t → Cut r → Cut (x ∷ r)
-    go true e c = inr ([], r, (λ i lt. absurd (omega arith)), ap (λ y. y ∷ r) (eqb-true x 61 e))
+    go true e c = inr (record { front = []; behind = r; none = λ i lt. absurd (omega arith); whole = ap (λ y. y ∷ r) (eqb-true x 61 e) })
     go false e (inl h) = inl (lacks_cons x r e h)
-    go false e (inr p) = inr (x ∷ p.0, p.1, lacks_cons x p.0 e p.2, ap (λ y. x ∷ y) p.3)
+    go false e (inr p) = inr (record { front = x ∷ p.front; behind = p.behind; none = lacks_cons x p.front e p.none; whole = ap (λ y. x ∷ y) p.whole })
 
 -- the name in a word that begins with two hyphens
 tail_name : Word → Word
@@ -115,9 +121,9 @@ see_named z zs s e (inl h) =
     let is : z ∷ zs ≡ label s = sym (ap (λ p. p.0) (name_and_value-without (z ∷ zs) h)) ∙ e in
     bare s (ap (λ r. 45 ∷ 45 ∷ r) is ∙ sym (name_is s))
 see_named z zs s e (inr p) =
-    let cut_is = ap name_and_value p.3 ∙ name_and_value-at p.0 p.1 p.2 in
-    let is : p.0 ≡ label s = sym (ap (λ q. q.0) cut_is) ∙ e in
-    both s p.1 (ap (λ r. 45 ∷ 45 ∷ r) (p.3 ∙ ap (λ a. a ++ 61 ∷ p.1) is) ∙ ap (λ n. n ++ 61 ∷ p.1) (sym (name_is s)))
+    let cut_is = ap name_and_value p.whole ∙ name_and_value-at p.front p.behind p.none in
+    let is : p.front ≡ label s = sym (ap (λ q. q.0) cut_is) ∙ e in
+    both s p.behind (ap (λ r. 45 ∷ 45 ∷ r) (p.whole ∙ ap (λ a. a ++ 61 ∷ p.behind) is) ∙ ap (λ n. n ++ 61 ∷ p.behind) (sym (name_is s)))
 
 longer_end : (z : ℕ) (zs : Word) → 45 ∷ 45 ∷ z ∷ zs ≢ end_of_options
 longer_end z zs e = let n = ap length e in absurd (omega arith)

@@ -26,16 +26,21 @@ no_cut : (word a b : Word) → HasNoCross word → word ≡ a ++ 120 ∷ b → �
 no_cut word a b none e =
     subst (λ (w : Word). HasNoCross w) e none (length a) (omega (arith, length_with a b)) (get_or-append_seam a 120 b 0)
 
-cut_same : (a c b d : Word) → HasNoCross a → HasNoCross c → a ++ 120 ∷ b ≡ c ++ 120 ∷ d → (a ≡ c) × (b ≡ d)
-cut_same [] [] b d p q e = (refl, cc)
+-- a word is cut at its first cross in one way
+record AreSameHalves (a c b d : Word) : Type 0 where
+  front : a ≡ c
+  behind : b ≡ d
+
+cut_same : (a c b d : Word) → HasNoCross a → HasNoCross c → a ++ 120 ∷ b ≡ c ++ 120 ∷ d → AreSameHalves a c b d
+cut_same [] [] b d p q e = record { front = refl; behind = cc }
 cut_same [] (y ∷ c) b d p q e = let head : y ≡ 120 = cc in absurd (q 0 (omega arith) head)
 cut_same (x ∷ a) [] b d p q e = let head : x ≡ 120 = cc in absurd (p 0 (omega arith) head)
 cut_same (x ∷ a) (y ∷ c) b d p q e =
     let head : x ≡ y = cc in
     let tail : a ++ 120 ∷ b ≡ c ++ 120 ∷ d = cc in
     let more = cut_same a c b d (λ k lt is. p (suc k) (omega arith) is) (λ k lt is. q (suc k) (omega arith) is) tail in
-    let first : a ≡ c = more.0 in
-    (cc, more.1)
+    let first : a ≡ c = more.front in
+    record { front = cc; behind = more.behind }
 
 no_sizes_by : (word : Word) → HasNoCross word → (words : List Word) (numbers : List ℕ) → word ≡ with_crosses words → WriteSizes words numbers → ⊥
 no_sizes_by word none [] [] e sizes = let some = sizes.some in absurd (omega arith)
@@ -53,10 +58,10 @@ two_sizes_by word first rest e p q (u ∷ []) (n ∷ []) is sizes = let some = s
 two_sizes_by word first rest e p q (u ∷ []) (n ∷ m ∷ numbers) is sizes = absurd sizes.each.1
 two_sizes_by word first rest e p q (u ∷ v ∷ []) (n ∷ numbers) is sizes =
     let same = cut_same u first v rest (number_no_cross 2 16 u n sizes.each.0) p (sym is ∙ e) in
-    subst (λ (words : List Word). WriteSizes words (n ∷ numbers)) (ap (λ x. x ∷ v ∷ []) same.0 ∙ ap (λ x. first ∷ x ∷ []) same.1) sizes
+    subst (λ (words : List Word). WriteSizes words (n ∷ numbers)) (ap (λ x. x ∷ v ∷ []) same.front ∙ ap (λ x. first ∷ x ∷ []) same.behind) sizes
 two_sizes_by word first rest e p q (u ∷ v ∷ w ∷ words) (n ∷ numbers) is sizes =
     let same = cut_same u first (with_crosses (v ∷ w ∷ words)) rest (number_no_cross 2 16 u n sizes.each.0) p (sym is ∙ e) in
-    absurd (no_cut rest v (with_crosses (w ∷ words)) q (sym same.1))
+    absurd (no_cut rest v (with_crosses (w ∷ words)) q (sym same.behind))
 
 three_sizes_by : (word first rest second third : Word) → word ≡ first ++ 120 ∷ rest → HasNoCross first → rest ≡ second ++ 120 ∷ third → HasNoCross second → (words : List Word) (numbers : List ℕ) → word ≡ with_crosses words → WriteSizes words numbers → WriteSizes (first ∷ second ∷ third ∷ []) numbers
 three_sizes_by word first rest second third e p f q [] [] is sizes = let some = sizes.some in absurd (omega arith)
@@ -67,11 +72,11 @@ three_sizes_by word first rest second third e p f q (u ∷ []) (n ∷ m ∷ numb
 three_sizes_by word first rest second third e p f q (u ∷ v ∷ words) (n ∷ []) is sizes = absurd sizes.each.1
 three_sizes_by word first rest second third e p f q (u ∷ v ∷ []) (n ∷ m ∷ numbers) is sizes =
     let same = cut_same u first v rest (number_no_cross 2 16 u n sizes.each.0) p (sym is ∙ e) in
-    absurd (no_cut v second third (number_no_cross 2 16 v m sizes.each.1.0) (same.1 ∙ f))
+    absurd (no_cut v second third (number_no_cross 2 16 v m sizes.each.1.0) (same.behind ∙ f))
 three_sizes_by word first rest second third e p f q (u ∷ v ∷ w ∷ []) (n ∷ m ∷ numbers) is sizes =
     let same = cut_same u first (v ++ 120 ∷ w) rest (number_no_cross 2 16 u n sizes.each.0) p (sym is ∙ e) in
-    let more = cut_same v second w third (number_no_cross 2 16 v m sizes.each.1.0) q (same.1 ∙ f) in
-    subst (λ (words : List Word). WriteSizes words (n ∷ m ∷ numbers)) (ap (λ x. x ∷ v ∷ w ∷ []) same.0 ∙ ap (λ x. first ∷ x ∷ w ∷ []) more.0 ∙ ap (λ x. first ∷ second ∷ x ∷ []) more.1) sizes
+    let more = cut_same v second w third (number_no_cross 2 16 v m sizes.each.1.0) q (same.behind ∙ f) in
+    subst (λ (words : List Word). WriteSizes words (n ∷ m ∷ numbers)) (ap (λ x. x ∷ v ∷ w ∷ []) same.front ∙ ap (λ x. first ∷ x ∷ w ∷ []) more.front ∙ ap (λ x. first ∷ second ∷ x ∷ []) more.behind) sizes
 three_sizes_by word first rest second third e p f q (u ∷ v ∷ w ∷ x ∷ words) (n ∷ m ∷ []) is sizes = absurd sizes.each.1.1
 three_sizes_by word first rest second third e p f q (u ∷ v ∷ w ∷ x ∷ words) (n ∷ m ∷ k ∷ []) is sizes = absurd sizes.each.1.1.1
 three_sizes_by word first rest second third e p f q (u ∷ v ∷ w ∷ x ∷ words) (n ∷ m ∷ k ∷ l ∷ numbers) is sizes = let few = sizes.few in absurd (omega arith)
@@ -92,13 +97,13 @@ too_large_by u v w a b c p q r large (n ∷ m ∷ k ∷ l ∷ numbers) each smal
 
 -- a word without a cross writes no sizes
 pub no_sizes : (word : Word) → HasNoCross word → (numbers : List ℕ) → AreSizes word numbers → ⊥
-no_sizes word none numbers sizes = no_sizes_by word none sizes.0 numbers sizes.1 sizes.2
+no_sizes word none numbers sizes = no_sizes_by word none sizes.words numbers sizes.crossed sizes.sizes
 
 pub two_sizes : (word first rest : Word) → word ≡ first ++ 120 ∷ rest → HasNoCross first → HasNoCross rest → (numbers : List ℕ) → AreSizes word numbers → WriteSizes (first ∷ rest ∷ []) numbers
-two_sizes word first rest e p q numbers sizes = two_sizes_by word first rest e p q sizes.0 numbers sizes.1 sizes.2
+two_sizes word first rest e p q numbers sizes = two_sizes_by word first rest e p q sizes.words numbers sizes.crossed sizes.sizes
 
 pub three_sizes : (word first rest second third : Word) → word ≡ first ++ 120 ∷ rest → HasNoCross first → rest ≡ second ++ 120 ∷ third → HasNoCross second → (numbers : List ℕ) → AreSizes word numbers → WriteSizes (first ∷ second ∷ third ∷ []) numbers
-three_sizes word first rest second third e p f q numbers sizes = three_sizes_by word first rest second third e p f q sizes.0 numbers sizes.1 sizes.2
+three_sizes word first rest second third e p f q numbers sizes = three_sizes_by word first rest second third e p f q sizes.words numbers sizes.crossed sizes.sizes
 
 -- what holds of the sizes that are found holds in other words
 pub sizes_as : {V E : Type 0} (r : Result (Option V) E) (items : V → List ℕ) (P Q : List ℕ → Type 0) → ((n : List ℕ) → P n → Q n) → ((n : List ℕ) → Q n → P n) → IfOk r (λ found. MatchOption found ((n : List ℕ) → P n → ⊥) (λ s. P (items s))) → IfOk r (λ found. MatchOption found ((n : List ℕ) → Q n → ⊥) (λ s. Q (items s)))
@@ -134,7 +139,7 @@ same_crossed u v [] (w ∷ other) p q e = absurd (no_cut u v (with_crosses (w �
 same_crossed u v (w ∷ one) [] p q e = absurd (no_cut v u (with_crosses (w ∷ one)) q.0 (sym e))
 same_crossed u v (w ∷ one) (x ∷ other) p q e =
     let same = cut_same u v (with_crosses (w ∷ one)) (with_crosses (x ∷ other)) p.0 q.0 e in
-    ap (λ y. y ∷ w ∷ one) same.0 ∙ ap (λ y. v ∷ y) (same_crossed w x one other p.1 q.1 same.1)
+    ap (λ y. y ∷ w ∷ one) same.front ∙ ap (λ y. v ∷ y) (same_crossed w x one other p.1 q.1 same.behind)
 
 no_words : (numbers : List ℕ) → WriteSizes [] numbers → ⊥
 no_words [] sizes = let some = sizes.some in absurd (omega arith)
@@ -148,7 +153,7 @@ same_words (u ∷ one) (v ∷ other) m n p q e =
 
 pub same_sizes : (word : Word) (m n : List ℕ) → AreSizes word m → AreSizes word n → m ≡ n
 same_sizes word m n p q =
-    same_numbers q.0 m n (subst (λ (words : List Word). AllZip (IsNumberIn 2 16) words m) (same_words p.0 q.0 m n p.2 q.2 (sym p.1 ∙ q.1)) p.2.each) q.2.each
+    same_numbers q.words m n (subst (λ (words : List Word). AllZip (IsNumberIn 2 16) words m) (same_words p.words q.words m n p.sizes q.sizes (sym p.crossed ∙ q.crossed)) p.sizes.each) q.sizes.each
 
 numbers_small : (words : List Word) (numbers : List ℕ) → AllZip (IsNumberIn 2 16) words numbers → All (λ n. (2 ≤ n) × (n ≤ 16)) numbers
 numbers_small [] [] p = All-nil _
@@ -158,4 +163,4 @@ numbers_small (w ∷ words) (n ∷ numbers) p = All-cons (λ m. (2 ≤ m) × (m 
 
 -- sizes that a word writes are small
 pub sizes_small : (word : Word) (numbers : List ℕ) → AreSizes word numbers → AreSmallSizes numbers
-sizes_small word numbers sizes = record { some = sizes.2.some; few = sizes.2.few; each = numbers_small sizes.0 numbers sizes.2.each; small = sizes.2.small }
+sizes_small word numbers sizes = record { some = sizes.sizes.some; few = sizes.sizes.few; each = numbers_small sizes.words numbers sizes.sizes.each; small = sizes.sizes.small }

@@ -1,5 +1,5 @@
 -- What the words of the command line ask for.
-use Rattle.std.specs.Prelude.{◌≡◌, ◌⊎◌, ℕ, ◌<◌, ◌≤◌, Bool, true, false, if◌then◌else◌, List, [], ◌∷◌, ◌++◌, length, Option, Some, None}
+use Rattle.std.specs.Prelude.{◌≡◌, ◌≢◌, ◌⊎◌, ℕ, ◌<◌, ◌≤◌, Bool, true, false, if◌then◌else◌, List, [], ◌∷◌, ◌++◌, length, slice_index, Option, Some, None}
 use Rattle.std.specs.List.{AllZip, flat_map}
 use Rattle.std.specs.Str.Parse.{digits_value}
 use Rattle.mk_model.specs.Tables.{AreDigits}
@@ -68,8 +68,15 @@ pub record WriteSizes (words : List Word) (numbers : List ℕ) : Type 0 where
   pub small : product numbers ≤ 512
 
 -- the word writes such numbers with `x` between them
-abbrev pub AreSizes : Word → List ℕ → Type 0
-AreSizes word numbers = (words : List Word) × (word ≡ with_crosses words) × WriteSizes words numbers
+pub record AreSizes (word : Word) (numbers : List ℕ) : Type 0 where
+  pub words : List Word
+  pub crossed : word ≡ with_crosses words
+  pub sizes : WriteSizes words numbers
+
+-- the word is these two, with its first `x` between them
+pub record IsCutAtCross (word front behind : Word) : Type 0 where
+  pub whole : word ≡ front ++ 120 ∷ behind
+  pub none_before : (k : ℕ) → k < length front → slice_index front k ≢ 120
 
 -- the task: the one plain word is a project, and is not empty; or there are the sizes of a model and no plain word
 abbrev pub IsTask : List Word → List Word → Task → Type 0

@@ -38,11 +38,18 @@ IsWritten (option s v) words =
     ((words ≡ option_name s ∷ v ∷ []) × ¬ (IsOptionWord v)) ⊎ (words ≡ with_value s v ∷ [])
 IsWritten (plain w) words = (words ≡ w ∷ []) × ¬ (IsOptionWord w)
 
+-- the first of the words are those of the piece, and of the others this holds
+pub record AreWrittenFirst (piece : Piece) (words : List Word) (Others : List Word → Type 0) : Type 0 where
+  pub first : List Word
+  pub rest : List Word
+  pub whole : words ≡ first ++ rest
+  pub written : IsWritten piece first
+  pub others : Others rest
+
 -- the words are those of the pieces, one after another
 unfoldable pub AreWritten : List Piece → List Word → Type 0
 AreWritten [] words = words ≡ []
-AreWritten (piece ∷ pieces) words =
-    (first : List Word) × (rest : List Word) × (words ≡ first ++ rest) × IsWritten piece first × AreWritten pieces rest
+AreWritten (piece ∷ pieces) words = AreWrittenFirst piece words (λ rest. AreWritten pieces rest)
 
 -- what stands behind the options: nothing, or `--` and further words
 abbrev pub behind : Option (List Word) → List Word

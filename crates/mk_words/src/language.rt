@@ -9,7 +9,7 @@ use crate::options::Setting;
 use crate::parser::{parse, plain_given, value_given};
 use crate::request::{ProjectName, Request, Sizes, Task, UsageFault};
 use clap::ArgMatches;
-use mk_model::NoMemory;
+use mk_model::{NoMemory, WORKERS_MAX};
 use std::alloc::Global;
 
 /// How many cells a made table may have.
@@ -104,12 +104,12 @@ fn sizes_in(alloc: Global, word: &[u8]) -> Result<Option<Vec<u32>>, NoMemory>
         ((numbers : List ℕ) → AreSizes word.now numbers → ⊥)
         (λ sizes. AreSizes word.now sizes.items)) }
 {
-    let Some((first, rest)) = cut_at_cross(word) else {
+    let Some(cut) = cut_at_cross(word) else {
         return Ok(None);
     };
-    match cut_at_cross(rest) {
-        None => two_sizes(alloc, first, rest),
-        Some((second, third)) => three_sizes(alloc, first, second, third),
+    match cut_at_cross(cut.behind) {
+        None => two_sizes(alloc, cut.front, cut.behind),
+        Some(rest) => three_sizes(alloc, cut.front, rest.front, rest.behind),
     }
 }
 
@@ -159,7 +159,8 @@ fn request_of(alloc: Global, matches: &ArgMatches<'_>) -> Result<Request, UsageF
     ensures ok { IfOk result (AskFor (λ s. given s matches.now) (plains_given matches.now)) }
     ensures words { IsErrOf result UsageFault.Words → (request : Request) → AskFor (λ s. given s matches.now) (plains_given matches.now) request → ⊥ }
 {
-    let Some(workers) = number_given(matches, Setting::Workers, 1, 64, 4) else {
+    let most = u64::from(WORKERS_MAX);
+    let Some(workers) = number_given(matches, Setting::Workers, 1, most, 4) else {
         return Err(UsageFault::Words);
     };
     let Some(budget) = number_given(matches, Setting::Budget, 0, 100_000_000, 20_000_000) else {

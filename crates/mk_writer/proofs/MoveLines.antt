@@ -1,20 +1,14 @@
 -- The line of a move, one entry after another, and the lines of moves.
-use Rattle.std.proofs.Common.{◌≡◌, ℕ, zero, suc, ◌+◌, ◌<◌, List, [], ◌∷◌, ◌++◌, length, map, take, get_or, refl, ap, sym, ◌∙◌, arith, append_assoc, ℤ, pos, Some, slice_get}
+use Rattle.std.proofs.Common.{◌≡◌, ℕ, zero, suc, ◌+◌, ◌<◌, List, [], ◌∷◌, ◌++◌, length, map, take, get_or, ap, sym, ◌∙◌, arith, ℤ, pos, Some, slice_get}
 use Rattle.std.specs.Fmt.{signed_decimal}
 use Rattle.std.specs.List.{flat_map, join_with_byte}
 use Rattle.std.proofs.lemmas.List.{flat_map_more, map_more, length-map, length-take-le}
 use Rattle.std.proofs.lemmas.Option.{get_or_from_slice_get}
 use Rattle.mk_model.specs.Texts.{move_line}
+use Rattle.mk_model.proofs.TextPieces.{join_more}
 use Rattle.mk_move.specs.Moves.{Weighed}
 use Rattle.mk_move.specs.MoveLists.{vectors_of}
 use Rattle.mk_writer.specs.Lines.{space_before}
-
--- one piece more, behind others
-join_more : (c : ℕ) (pieces : List (List ℕ)) (x : List ℕ) → 0 < length pieces → join_with_byte c (pieces ++ x ∷ []) ≡ join_with_byte c pieces ++ (c ∷ x)
-join_more c [] x h = absurd (omega arith)
-join_more c (y ∷ []) x h = refl
-join_more c (y ∷ z ∷ pieces) x h =
-    ap (λ t. y ++ (c ∷ t)) (join_more c (z ∷ pieces) x (omega arith)) ∙ sym (append_assoc y (c ∷ join_with_byte c (z ∷ pieces)) (c ∷ x))
 
 -- the entries so far
 abbrev pub so_far : List ℤ → ℕ → List ℕ

@@ -2,9 +2,9 @@ use Rattle.std.proofs.Common.{◌++◌, ap, sym, ◌∙◌, arith, append-nil}
 use Rattle.std.specs.List.{flat_map}
 use Rattle.std.proofs.lemmas.List.{take_all}
 use Rattle.mk_model.specs.Tables.{rows_of}
+use Rattle.mk_model.proofs.TableRows.{length-rows_of}
 use Rattle.mk_gen.specs.Models.{times_difference}
 use Rattle.mk_gen.proofs.Pieces.{element_piece}
-use Rattle.mk_gen.proofs.Rows.{length-rows_of}
 use Rattle.mk_gen.proofs.model.push_rows.Goals as goal
 
 pub loop-r-init : goal.loop-r-init

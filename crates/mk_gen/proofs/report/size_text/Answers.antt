@@ -1,6 +1,6 @@
 use Rattle.std.proofs.Common.{◌++◌, ap, decimal, arith, ◌≡◌}
+use Rattle.mk_model.proofs.TextPieces.{in_other_words}
 use Rattle.mk_gen.specs.Parts.{x_before}
-use Rattle.mk_gen.proofs.SizesText.{in_other_words}
 use Rattle.mk_gen.proofs.report.size_text.Goals as goal
 
 pub returns-then-place-eq0 : goal.returns-then-place-eq0

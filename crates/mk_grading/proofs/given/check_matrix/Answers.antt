@@ -1,7 +1,8 @@
 use Rattle.std.proofs.Common.{All, subst, sym, ◌∙◌, arith, rules}
 use Rattle.mk_model.specs.Tables.{rows_of}
 use Rattle.mk_model.specs.ChosenGradings.{IsSmallEntry, IsOrthogonal, FitsMatrix}
-use Rattle.mk_grading.proofs.RowsRead.{length-rows_of, rows_entries, got_holds, all_more, all_taken}
+use Rattle.mk_model.proofs.TableRows.{length-rows_of, rows_entries}
+use Rattle.mk_grading.proofs.RowsRead.{got_holds, all_more, all_taken}
 use Rattle.mk_grading.proofs.given.check_matrix.Goals as goal
 
 pub narrowed-requires : goal.narrowed-requires

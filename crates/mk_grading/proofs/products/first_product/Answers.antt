@@ -2,7 +2,8 @@ use Rattle.std.proofs.Common.{◌≡◌, pos, List, ℤ, sym, ◌∙◌, arith}
 use Rattle.std.proofs.lemmas.Int.{ints}
 use Rattle.mk_model.specs.Vectors.{weight}
 use Rattle.mk_model.specs.Tables.{rows_of}
-use Rattle.mk_grading.proofs.RowsRead.{length-rows_of, all_more, all_taken}
+use Rattle.mk_model.proofs.TableRows.{length-rows_of}
+use Rattle.mk_grading.proofs.RowsRead.{all_more, all_taken}
 use Rattle.mk_grading.proofs.products.first_product.Goals as goal
 
 abbrev HasNoProduct : List ℤ → List ℤ → Type 0

@@ -2,8 +2,9 @@ use Rattle.std.proofs.Common.{◌≡◌, ◌+◌, All, List, length, ap, sym, �
 use Rattle.mk_model.specs.Tables.{rows_of}
 use Rattle.mk_model.specs.Vectors.{zeros, add}
 use Rattle.mk_model.specs.ChosenGradings.{IsSmallEntry, nonnegative_rows, sum_of_rows}
+use Rattle.mk_model.proofs.TableRows.{length-rows_of, rows_entries}
 use Rattle.std.proofs.lemmas.List.{take_all, with_items_is}
-use Rattle.mk_grading.proofs.RowsRead.{length-rows_of, rows_entries, got_holds}
+use Rattle.mk_grading.proofs.RowsRead.{got_holds}
 use Rattle.mk_grading.proofs.RowsSummed.{IsSumUpTo, none_summed, row_left, row_added}
 use Rattle.mk_grading.proofs.sums.sum_of_rows.Goals as goal
 use Rattle.mk_grading.proofs.sums.sum_of_rows.Goals.{then-is_nonnegative, else-is_nonnegative}

@@ -3,7 +3,7 @@ use Rattle.std.proofs.lemmas.Bool.{not-false, false≢true}
 use Rattle.std.proofs.lemmas.List.Elements.{All-more}
 use mathlib.Core.Bool.{beq}
 use Rattle.mk_model.specs.Tables.{is_space}
-use Rattle.mk_files.proofs.tokens.run_len.Goals as goal
+use Rattle.mk_files.proofs.tokens.stretch_len.Goals as goal
 
 same_from_beq : (a b : Bool) → beq a b ≡ true → a ≡ b
 same_from_beq true true h = refl

@@ -2,3 +2,4 @@ pub mod Folders
 pub mod MemoryFolders
 pub mod SureFolders
 pub mod Transfers
+pub mod ToolStatuses

@@ -3,18 +3,25 @@
 ghost use Rattle.std.specs.Prelude.{◌≡◌, ◌++◌, ◌<◌, ◌≤◌, ◌↔◌, IsTrue, IfOk, IfSome, length, string_bytes, codes, decimal};
 
 use std::alloc::{AllocError, Global};
-use std::fs::{self, File, OpenFile};
-use std::io::{ErrorKind, Write};
+use std::fs::{self, File, OpenFile, Permissions};
+use std::io::{self, ErrorKind, Write};
+use std::os::unix::fs::{OpenOptionsExt, PermissionsExt};
 use std::path::Path;
 use std::rt::Files;
 
 /// How many names a file that is being made may have, beside its place.
 const PART_NAMES: u64 = 100;
 
+/// The bits of a file's mode that say who may read, write and run it.
+const PERMISSION_BITS: u32 = 0o777;
+
+/// Its owner alone may read and write a file.
+const OWNER_ALONE: u32 = 0o600;
+
 /// A file that is being made.
 ///
 /// From its first write on it stands beside its place, under a name that no file had, and it takes its own name at the end.
-/// Where it fails nothing is left beside its place.
+/// It has the permissions of the file that it takes the place of. Where it fails nothing is left beside its place.
 #[derive(Drop)]
 pub(crate) struct PartFile<R: Files> {
     name: String,
@@ -95,15 +102,38 @@ fn make_part<R: Files>(
     name: &str,
     names: u64,
 ) -> Result<Part<R>, AllocError> {
+    let mode = older_mode(rt, name);
     for number in 1..=names {
         let beside = part_name(alloc, name, number)?;
-        match File::create_new(rt, beside.as_str()) {
+        match create_part(rt, beside.as_str(), mode) {
             Ok(file) => return Ok(Part::Open { file, beside }),
             Err(error) if is_taken(error.kind()) => {}
             Err(_) => return Ok(Part::NoMore),
         }
     }
     Ok(Part::NoMore)
+}
+
+// The permissions of the file of this name, and none where no file has it. Where they can't be read its owner alone has any.
+fn older_mode<R: Files>(rt: &R, name: &str) -> Option<u32> {
+    match fs::metadata(rt, name) {
+        Ok(older) => Some(older.permissions().mode() & PERMISSION_BITS),
+        Err(error) if is_absent(error.kind()) => None,
+        Err(_) => Some(OWNER_ALONE),
+    }
+}
+
+// Makes a new file with these permissions, or with those that the system gives to any. At no time has it more of them.
+fn create_part<R: Files>(rt: &R, beside: &str, mode: Option<u32>) -> io::Result<R::File> {
+    let Some(mode) = mode else {
+        return File::create_new(rt, beside);
+    };
+    let mut options = File::options();
+    options.read(true).write(true).create_new(true).mode(mode);
+    let file = options.open(rt, beside)?;
+    // The system takes away what its mask has of them. Where it doesn't let them be given back, the file has fewer.
+    let _ = file.set_permissions(Permissions::from_mode(mode));
+    Ok(file)
 }
 
 // The name beside a place of this number, counted from 1: `NAME.part`, `NAME.part2`, `NAME.part3` and so on.

@@ -14,7 +14,7 @@ use std::rt::Files;
 ///
 /// A file that is being made stands beside its place from its first write on, under its name with `.part` behind it or with
 /// `.part2`, `.part3` and so on up to `.part100`, where a file has such a name already; that one is left as it is. At the end
-/// its bytes are synced, and it takes its name.
+/// its bytes are synced, and it takes its name. It has the permissions of the file that it takes the place of.
 #[derive(Drop)]
 pub struct RealFolder<'a, R: Files> {
     alloc: Global,

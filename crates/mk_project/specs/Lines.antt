@@ -50,5 +50,6 @@ complaint project (FileSize file read) = ending_of file ++ codes ": more than " 
 complaint project (Table file fault) = ending_of file ++ table_complaint fault
 complaint project (NoGrade fault) = grade_complaint project fault
 
-abbrev pub input_line : List ℕ → InputFault → List ℕ
-input_line project fault = codes "markov: " ++ project ++ complaint project fault
+-- the line of a program for a fault of a project's input
+abbrev pub input_line : List ℕ → List ℕ → InputFault → List ℕ
+input_line program project fault = program ++ codes ": " ++ project ++ complaint project fault

@@ -8,24 +8,29 @@ use mk_grading::GradeFault;
 use std::alloc::{AllocError, Global};
 use std::fmt;
 
-/// The line for a fault of the project's input.
-pub fn input_line(alloc: Global, project: &str, fault: InputFault) -> Result<String, AllocError>
-    ensures { IfOk result (λ line. string_bytes line ≡ input_line project.now fault) }
+/// The line for a fault of the project's input, which begins with the name of the program.
+pub fn input_line(
+    alloc: Global,
+    program: &str,
+    project: &str,
+    fault: InputFault,
+) -> Result<String, AllocError>
+    ensures { IfOk result (λ line. string_bytes line ≡ input_line program.now project.now fault) }
 {
     match fault {
-        InputFault::NoLattice => format!(in alloc; "markov: {project}.lat: not there\n"),
+        InputFault::NoLattice => format!(in alloc; "{program}: {project}.lat: not there\n"),
         InputFault::FileSize { file, .. } => {
             let ending = file.ending();
-            format!(in alloc; "markov: {project}{ending}: more than {FILE_LIMIT} bytes\n")
+            format!(in alloc; "{program}: {project}{ending}: more than {FILE_LIMIT} bytes\n")
         }
         InputFault::Table { file, fault } => {
             let ending = file.ending();
             let complaint = table_complaint(alloc, fault)?;
-            format!(in alloc; "markov: {project}{ending}{complaint}")
+            format!(in alloc; "{program}: {project}{ending}{complaint}")
         }
         InputFault::Grade(fault) => {
             let complaint = grade_complaint(alloc, project, fault)?;
-            format!(in alloc; "markov: {project}{complaint}")
+            format!(in alloc; "{program}: {project}{complaint}")
         }
     }
 }

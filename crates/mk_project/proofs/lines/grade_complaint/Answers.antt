@@ -2,7 +2,7 @@ use Rattle.std.proofs.Common.{rules, append_assoc}
 use mir.Syntax.{w64, w128}
 use mir.Val.{SFits}
 use Rattle.std.proofs.lemmas.Int.{to_z-of_z}
-use Rattle.mk_project.proofs.LineParts.{in_other_words}
+use Rattle.mk_model.proofs.TextPieces.{in_other_words}
 use Rattle.mk_project.proofs.lines.grade_complaint.Goals as goal
 
 pub returns-in-MatColumns : goal.returns-in-MatColumns

@@ -1,5 +1,5 @@
 use Rattle.std.proofs.Common.{append_assoc}
-use Rattle.mk_project.proofs.LineParts.{in_other_words}
+use Rattle.mk_model.proofs.TextPieces.{in_other_words}
 use Rattle.mk_project.proofs.lines.table_complaint.Goals as goal
 
 pub returns-in-NoHeader : goal.returns-in-NoHeader

@@ -12,6 +12,7 @@ use Rattle.mk_model.specs.Vectors.{entry, zeros, scale, positive_part, IsEntry}
 use Rattle.mk_model.specs.Reductions.{Divides}
 use Rattle.mk_model.specs.Pairs.{AreDisjoint}
 use Rattle.mk_model.proofs.VectorAlgebra.{lengths, columns, positive_part_at, entry-positive_part, entry-negative_part, length-positive_part, length-negative_part, only_zeros}
+use Rattle.mk_model.proofs.Integers.{max_zero, max_within}
 use Rattle.mk_move.specs.declared.side.Side.{Side}
 use Rattle.mk_move.specs.declared.side.Side.TheVariants.{Plus, Minus}
 use Rattle.mk_move.specs.Sides.{part_of, entry_on, IsMostTimes}
@@ -40,15 +41,12 @@ part_of_past side x c h = get_or_past (part_of side x) c (pos 0) (omega (arith, 
 abbrev pub DividesUpTo : List ℤ → List ℤ → Side → ℕ → Type 0
 DividesUpTo lead row side n = (c : ℕ) → c < n → entry (positive_part lead) c ≤ℤ entry (part_of side row) c
 
-within_part : (a b : ℤ) → pos 0 ≤ℤ b → a ≤ℤ b → int_max a (pos 0) ≤ℤ b
-within_part a b h k = omega (arith, ints, clamps)
-
 not_within : (a b : ℤ) → b <ℤ a → int_max a (pos 0) ≤ℤ b → ⊥
 not_within a b h k = omega (arith, ints, clamps)
 
 pub divides_here : (lead row : List ℤ) (side : Side) (n : ℕ) → entry lead n ≤ℤ entry_on side (entry row n) → entry (positive_part lead) n ≤ℤ entry (part_of side row) n
 divides_here lead row side n k =
-    simp (entry-positive_part, entry-part_of) (within_part (entry lead n) (entry_on side (entry row n)) (entry_on_nonnegative side (entry row n)) k)
+    simp (entry-positive_part, entry-part_of) (max_within (entry lead n) (entry_on side (entry row n)) (entry_on_nonnegative side (entry row n)) k)
 
 pub divides_more : (lead row : List ℤ) (side : Side) (n : ℕ) → DividesUpTo lead row side n → entry lead n ≤ℤ entry_on side (entry row n) → DividesUpTo lead row side (n + 1)
 divides_more lead row side n h k =
@@ -68,11 +66,8 @@ divides_not lead row side n h d = not_within (entry lead n) (entry_on side (entr
 abbrev pub DisjointUpTo : List ℤ → List ℤ → ℕ → Type 0
 DisjointUpTo a b n = (c : ℕ) → c < n → (entry (positive_part a) c ≡ pos 0) ⊎ (entry (positive_part b) c ≡ pos 0)
 
-none_above : (a : ℤ) → a ≤ℤ pos 0 → int_max a (pos 0) ≡ pos 0
-none_above a h = omega (arith, ints, clamps)
-
 pub no_part : (x : List ℤ) (c : ℕ) → entry x c ≤ℤ pos 0 → entry (positive_part x) c ≡ pos 0
-no_part x c h = entry-positive_part x c ∙ none_above (entry x c) h
+no_part x c h = entry-positive_part x c ∙ max_zero (entry x c) h
 
 pub disjoint_more : (a b : List ℤ) (n : ℕ) → DisjointUpTo a b n → (entry a n ≤ℤ pos 0) ⊎ (entry b n ≤ℤ pos 0) → DisjointUpTo a b (n + 1)
 disjoint_more a b n h k =

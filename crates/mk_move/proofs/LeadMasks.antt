@@ -15,11 +15,11 @@ use Rattle.mk_model.specs.Vectors.{entry}
 use Rattle.mk_model.proofs.VectorAlgebra.{entry-positive_part, length-positive_part}
 use Rattle.mk_model.proofs.Divisors.{length-lcm}
 use Rattle.mk_move.specs.Chains.{DividesBetween}
-use Rattle.mk_move.specs.Masks.{IsMask, IsAtMostOne, IsTold}
+use Rattle.mk_move.specs.Masks.{IsMask, IsAtMostOne, HasExactMask}
 use Rattle.mk_move.specs.Moves.{Weighed}
-use Rattle.mk_move.specs.MoveLists.{BasisView, IsBasis, AreLeadMasks, AreTold, vectors_of}
+use Rattle.mk_move.specs.MoveLists.{BasisView, IsBasis, AreLeadMasks, AreExact, vectors_of}
 use Rattle.mk_move.proofs.Chains.{lcm_nonnegative, mask_of_lcm}
-use Rattle.mk_move.proofs.MaskTests.{apart_disjoint, not_dividing, told_divides}
+use Rattle.mk_move.proofs.MaskTests.{apart_disjoint, not_dividing, exact_divides}
 use Rattle.mk_move.proofs.Divisions.{part_of_past, part_of_nonnegative}
 use Rattle.mk_move.specs.declared.side.Side.TheVariants.{Plus}
 use Rattle.mk_model.specs.Pairs.{AreDisjoint}
@@ -63,13 +63,13 @@ squarefree_lead x h c = at (cases_lt c (length x))
     at (inl l) = let few : entry x c ≤ℤ pos 1 = h c (pos 0) l in omega (arith, ints, clamps, entry-positive_part x c, few)
     at (inr l) = omega (arith, ints, part_of_past Plus x c l)
 
-pub told_more : (moves : List Weighed) (flags : List Bool) (m : Weighed) (flag : Bool) → AreTold moves flags → (IsTrue flag → IsTold (lead m.entries)) → AreTold (moves ++ m ∷ []) (flags ++ flag ∷ [])
-told_more moves flags m flag h g = record {
+pub exact_more : (moves : List Weighed) (flags : List Bool) (m : Weighed) (flag : Bool) → AreExact moves flags → (IsTrue flag → HasExactMask (lead m.entries)) → AreExact (moves ++ m ∷ []) (flags ++ flag ∷ [])
+exact_more moves flags m flag h g = record {
   count = omega (arith, h.count, length-append flags (flag ∷ []), length-append moves (m ∷ []));
   each = λ k set. at k (cases_lt k (length moves)) (cases_lt k (length moves + 1)) set;
 }
   where
-    at : (k : ℕ) → (k < length moves) ⊎ (length moves ≤ k) → (k < length moves + 1) ⊎ (length moves + 1 ≤ k) → get_or (flags ++ flag ∷ []) k false ≡ true → IsTold (lead (move_at (vectors_of (moves ++ m ∷ [])) k))
+    at : (k : ℕ) → (k < length moves) ⊎ (length moves ≤ k) → (k < length moves + 1) ⊎ (length moves + 1 ≤ k) → get_or (flags ++ flag ∷ []) k false ≡ true → HasExactMask (lead (move_at (vectors_of (moves ++ m ∷ [])) k))
     at k (inl l) _ set =
         rw (move_before moves m k l) (h.each k (sym (get_or_append_left flags (flag ∷ []) false k (omega (arith, l, h.count))) ∙ set))
     at k (inr l) (inl few) set =
@@ -124,10 +124,10 @@ module _ (basis : BasisView) (masks : List ℕ) (i j k : ℕ) (h : IsBasis basis
   pub not_between : bit_and (get_or masks k 0) (bit_not w64 (bit_or (get_or masks i 0) (get_or masks j 0))) ≢ 0 → DividesBetween (vectors_of basis.moves) i j k → ⊥
   not_between some = not_dividing v (lcm a b) (get_or masks k 0) (bit_or (get_or masks i 0) (get_or masks j 0)) (bound k) room as_many (g.each k third) mask_is some
 
-  -- a mask that is, and tells its lead: the lead divides it
-  pub told_between : IsTold v → bit_and (get_or masks k 0) (bit_not w64 (bit_or (get_or masks i 0) (get_or masks j 0))) ≡ 0 → DividesBetween (vectors_of basis.moves) i j k
-  told_between told none =
-      told_divides v (lcm a b) (get_or masks k 0) (bit_or (get_or masks i 0) (get_or masks j 0)) room as_many told
+  -- a mask that is, and is exact: the lead divides it
+  pub exact_between : HasExactMask v → bit_and (get_or masks k 0) (bit_not w64 (bit_or (get_or masks i 0) (get_or masks j 0))) ≡ 0 → DividesBetween (vectors_of basis.moves) i j k
+  exact_between exact none =
+      exact_divides v (lcm a b) (get_or masks k 0) (bit_or (get_or masks i 0) (get_or masks j 0)) room as_many exact
       (lcm_nonnegative (move_at (vectors_of basis.moves) i) (move_at (vectors_of basis.moves) j)) (g.each k third) mask_is none
 
 -- masks without a bit in common: the leads are disjoint

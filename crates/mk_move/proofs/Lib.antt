@@ -20,3 +20,5 @@ pub mod Chains
 pub mod Takings
 pub mod Copies
 pub mod Multiples
+pub mod MaskEntries
+pub mod MoveVectors

@@ -11,7 +11,7 @@ use Rattle.std.proofs.Math.Nat.{div-one}
 use Rattle.mk_model.specs.Vectors.{entry}
 use Rattle.mk_model.specs.Reductions.{Divides}
 use Rattle.mk_model.specs.Pairs.{AreDisjoint}
-use Rattle.mk_move.specs.Masks.{block_width, block_of, HasPositive, IsMask, IsTold}
+use Rattle.mk_move.specs.Masks.{block_width, block_of, HasPositive, IsMask, HasExactMask}
 
 -- a number that isn't 0 has a bit that is set
 some_bit : (n : ℕ) → n < 2 ^ 64 → n ≢ 0 → (k : ℕ) × (k < 64) × (bit_at n k ≡ 1)
@@ -65,6 +65,16 @@ apart_disjoint x y left right l m n h g none c =
 pub one_column : (x : List ℤ) (c : ℕ) → length x ≤ 64 → block_of x c ≡ c
 one_column x c few = let e : block_width (length x) ≡ 1 = omega arith in ap (λ n. c / n) e ∙ div-one c
 
+-- and the bit of a column is set where its entry is positive, and nowhere else
+pub covers_column : (x : List ℤ) (mask c : ℕ) → length x ≤ 64 → IsMask x mask → pos 0 <ℤ entry x c → bit_at mask c ≡ 1
+covers_column x mask c few h p = ap (bit_at mask) (sym (one_column x c few)) ∙ h.covers c p
+
+pub positive_column : (x : List ℤ) (c : ℕ) → length x ≤ 64 → HasPositive x c → pos 0 <ℤ entry x c
+positive_column x c few there = subst (λ (k : ℕ). pos 0 <ℤ entry x k) (sym (one_column x there.column few) ∙ there.there) there.positive
+
+pub covered_column : (x : List ℤ) (mask c : ℕ) → length x ≤ 64 → IsMask x mask → bit_at mask c ≡ 1 → pos 0 <ℤ entry x c
+covered_column x mask c few h b = positive_column x c few (h.covered c b)
+
 not_disjoint_at : (x y : List ℤ) (k : ℕ) → length x ≡ length y → length x ≤ 64 → HasPositive x k → HasPositive y k → AreDisjoint x y → ⊥
 not_disjoint_at x y k l few first second d =
     go (subst (λ (c : ℕ). pos 0 <ℤ entry x c) (sym (one_column x first.column few) ∙ first.there) first.positive)
@@ -87,20 +97,20 @@ not_apart x y left right fits l few h g some d = go (some_bit (bit_and left righ
         let bits = in_both left right k set in
         not_disjoint_at x y k l few (h.covered k bits.0) (g.covered k bits.1) d
 
--- ---- a mask that tells the whole of a vector
+-- ---- an exact mask, which gives the whole of a vector
 bit_in_second : (inner outer k : ℕ) → outer < 2 ^ 64 → k < 64 → bit_and inner (bit_not w64 outer) ≡ 0 → bit_at inner k ≡ 1 → bit_at outer k ≡ 1
 bit_in_second inner outer k room low none set =
     let both : min (bit_at inner k) (bit_at (bit_not w64 outer) k) ≡ 0 = sym (bit_at_and inner (bit_not w64 outer) k) ∙ ap (λ n. bit_at n k) none ∙ bit_at-zero k in
     omega (arith, both, set, bit_at_not w64 outer k room low, bit_at-lt outer k)
 
 -- it divides each nonnegative vector whose mask it lies within
-pub told_divides : (x y : List ℤ) (inner outer : ℕ) → outer < 2 ^ 64 → length x ≡ length y → IsTold x → ((c : ℕ) → pos 0 ≤ℤ entry y c) → IsMask x inner → IsMask y outer → bit_and inner (bit_not w64 outer) ≡ 0 → Divides x y
-told_divides x y inner outer room l told nonnegative h g none = record { entries = λ c. by_lt_z (pos 0) (entry x c) (λ p. at c p) (λ q. omega (arith, ints, q, nonnegative c)) }
+pub exact_divides : (x y : List ℤ) (inner outer : ℕ) → outer < 2 ^ 64 → length x ≡ length y → HasExactMask x → ((c : ℕ) → pos 0 ≤ℤ entry y c) → IsMask x inner → IsMask y outer → bit_and inner (bit_not w64 outer) ≡ 0 → Divides x y
+exact_divides x y inner outer room l exact nonnegative h g none = record { entries = λ c. by_lt_z (pos 0) (entry x c) (λ p. at c p) (λ q. omega (arith, ints, q, nonnegative c)) }
   where
     here : (c : ℕ) → pos 0 <ℤ entry x c → HasPositive y c
     here c p =
-        let set : bit_at inner c ≡ 1 = ap (bit_at inner) (sym (one_column x c told.few)) ∙ h.covers c p in
-        g.covered c (bit_in_second inner outer c room (omega (arith, inside c p (cases_lt c (length x)), told.few)) none set)
+        let set : bit_at inner c ≡ 1 = ap (bit_at inner) (sym (one_column x c exact.few)) ∙ h.covers c p in
+        g.covered c (bit_in_second inner outer c room (omega (arith, inside c p (cases_lt c (length x)), exact.few)) none set)
       where
         inside : (c : ℕ) → pos 0 <ℤ entry x c → (c < length x) ⊎ (length x ≤ c) → c < length x
         inside c p (inl l) = l
@@ -109,6 +119,6 @@ told_divides x y inner outer room l told nonnegative h g none = record { entries
     at : (c : ℕ) → pos 0 <ℤ entry x c → entry x c ≤ℤ entry y c
     at c p =
         let there = here c p in
-        let column_is : there.column ≡ c = sym (one_column y there.column (omega (arith, l, told.few))) ∙ there.there in
+        let column_is : there.column ≡ c = sym (one_column y there.column (omega (arith, l, exact.few))) ∙ there.there in
         let positive : pos 0 <ℤ entry y c = subst (λ (n : ℕ). pos 0 <ℤ entry y n) column_is there.positive in
-        omega (arith, ints, positive, told.squarefree c)
+        omega (arith, ints, positive, exact.squarefree c)

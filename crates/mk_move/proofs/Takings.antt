@@ -1,5 +1,5 @@
 -- A row from which a multiple of another is taken off in place, one bit after another, and its masks.
-use Rattle.std.proofs.Common.{◌≡◌, ◌≢◌, ◌⊎◌, ◌↔◌, inl, inr, ℕ, ◌+◌, ◌*◌, ◌/◌, ◌^◌, ◌<◌, ◌≤◌, max, ◌&&◌, ◌||◌, not, nat_eq, Result, Ok, Err, rules, Bool, true, false, IsTrue, List, All, length, set, arith, sym, ap, ◌∙◌, subst, refl, ℤ, pos, neg_ℤ, ◌-ℤ◌, ◌*ℤ◌, ◌<ℤ◌, unsigned_abs}
+use Rattle.std.proofs.Common.{◌≡◌, ◌≢◌, ◌⊎◌, ◌↔◌, inl, inr, ℕ, ◌+◌, ◌*◌, ◌^◌, ◌<◌, ◌≤◌, max, ◌&&◌, ◌||◌, not, nat_eq, Result, Ok, Err, rules, Bool, true, false, IsTrue, List, All, length, set, arith, sym, ap, ◌∙◌, subst, refl, ℤ, pos, neg_ℤ, ◌-ℤ◌, ◌*ℤ◌, ◌<ℤ◌, unsigned_abs}
 use mir.Syntax.{w128}
 use mir.Val.{Fits, SFits, to_z, of_z}
 use Rattle.std.proofs.Math.Facts.{Fits-or}
@@ -7,7 +7,7 @@ use Rattle.std.specs.List.{refill}
 use Rattle.std.specs.Int.{bit_at, w64}
 use Rattle.std.specs.Int.RustNames.{bit_or}
 use borrow.Author.Count.{below_more}
-use Rattle.std.proofs.Math.Nat.{div-one, mul-le-mul}
+use Rattle.std.proofs.Math.Nat.{mul-le-mul}
 use Rattle.std.proofs.lemmas.Bool.{cases_eq, cases_lt, false≢true}
 use Rattle.std.proofs.lemmas.Bool.Decides.{nat_tests}
 use Rattle.std.proofs.lemmas.Int.{ints, clamps, by_lt_z, to_z-of_z, unsigned_abs-mul, fits_signed_from_abs}
@@ -17,7 +17,7 @@ use Rattle.std.proofs.lemmas.Nat.Bits.{bit_at_above, bit_at-lt, bit_at_or, bit_a
 use Rattle.mk_model.specs.Vectors.{entry, zeros, positive_part, negative_part, IsEntry}
 use Rattle.mk_model.proofs.VectorAlgebra.{lengths, same_vectors, entry-positive_part, entry-negative_part, entry-zeros, only_zeros}
 use Rattle.mk_model.proofs.Integers.{neg_ℤ-*ℤ}
-use Rattle.mk_move.specs.Masks.{block_width, block_of, IsMask, AreMasks}
+use Rattle.mk_move.specs.Masks.{block_of, IsMask, AreMasks}
 use Rattle.mk_model.specs.Overflows.{IsBeyond}
 use Rattle.mk_move.specs.Steps.{minus_times, IsOverflow}
 use Rattle.mk_move.specs.declared.steps.OverflowAt.{OverflowAt}
@@ -27,6 +27,7 @@ use Rattle.mk_move.proofs.Entries.{as_entry, entry_read, most_entry, abs_bounds,
 use Rattle.mk_move.specs.Moves.{Weighed, IsMoveKept}
 use Rattle.mk_move.proofs.Differences.{entry-minus_times}
 use Rattle.mk_move.proofs.Orientations.{refill_all}
+use Rattle.mk_move.proofs.MaskTests.{one_column, covers_column, covered_column}
 
 -- ---- masks by the columns themselves
 pub record AreBitMasks (x : List ℤ) (plus minus : ℕ) : Type 0 where
@@ -34,17 +35,6 @@ pub record AreBitMasks (x : List ℤ) (plus minus : ℕ) : Type 0 where
   pub is_positive : (c : ℕ) → bit_at plus c ≡ 1 → pos 0 <ℤ entry x c
   pub negative : (c : ℕ) → entry x c <ℤ pos 0 → bit_at minus c ≡ 1
   pub is_negative : (c : ℕ) → bit_at minus c ≡ 1 → entry x c <ℤ pos 0
-
-one_column : (x : List ℤ) (c : ℕ) → length x ≤ 64 → block_of x c ≡ c
-one_column x c few = let e : block_width (length x) ≡ 1 = omega arith in ap (λ n. c / n) e ∙ div-one c
-
-covers_column : (x : List ℤ) (mask c : ℕ) → length x ≤ 64 → IsMask x mask → pos 0 <ℤ entry x c → bit_at mask c ≡ 1
-covers_column x mask c few h p = ap (bit_at mask) (sym (one_column x c few)) ∙ h.covers c p
-
-covered_column : (x : List ℤ) (mask c : ℕ) → length x ≤ 64 → IsMask x mask → bit_at mask c ≡ 1 → pos 0 <ℤ entry x c
-covered_column x mask c few h b =
-    let there = h.covered c b in
-    subst (λ (k : ℕ). pos 0 <ℤ entry x k) (sym (one_column x there.column few) ∙ there.there) there.positive
 
 mask_of_columns : (x : List ℤ) (mask : ℕ) → length x ≤ 64 → ((c : ℕ) → pos 0 <ℤ entry x c → bit_at mask c ≡ 1) → ((c : ℕ) → bit_at mask c ≡ 1 → pos 0 <ℤ entry x c) → IsMask x mask
 mask_of_columns x mask few h k = record {

@@ -1,5 +1,5 @@
 -- Masks of vectors: a bit of a word for each block of columns, in their order.
-use Rattle.std.specs.Prelude.{◌≡◌, ℕ, ◌+◌, ◌/◌, ◌≤◌, max, List, length, ℤ, pos, ◌<ℤ◌, ◌≤ℤ◌}
+use Rattle.std.specs.Prelude.{◌≡◌, ℕ, ◌+◌, ◌/◌, ◌≤◌, max, nat_lt, if◌then◌else◌, List, length, ℤ, pos, ◌<ℤ◌, ◌≤ℤ◌}
 use Rattle.std.specs.Int.{bit_at}
 use Rattle.mk_model.specs.Vectors.{entry, positive_part, negative_part}
 
@@ -27,11 +27,19 @@ pub record AreMasks (x : List ℤ) (plus minus : ℕ) : Type 0 where
   pub positive : IsMask (positive_part x) plus
   pub negative : IsMask (negative_part x) minus
 
+-- the entry of a column that a mask gives, where each column has a bit
+abbrev pub entry_by_mask : ℕ → ℕ → ℕ → ℤ
+entry_by_mask columns mask c = if nat_lt 64 columns then pos 0 else pos (bit_at mask c)
+
+-- the least entry that a mask of so many columns doesn't give
+abbrev pub least_unmasked : ℕ → ℤ
+least_unmasked columns = if nat_lt 64 columns then pos 1 else pos 2
+
 -- an entry of a squarefree vector
 abbrev pub IsAtMostOne : ℤ → Type 0
 IsAtMostOne a = a ≤ℤ pos 1
 
--- the mask tells the whole of a nonnegative vector: a block is one column, and no entry is above 1
-pub record IsTold (x : List ℤ) : Type 0 where
+-- the mask of a nonnegative vector is exact, and gives each entry: a block is one column, and no entry is above 1
+pub record HasExactMask (x : List ℤ) : Type 0 where
   pub few : length x ≤ 64
   pub squarefree : (c : ℕ) → IsAtMostOne (entry x c)

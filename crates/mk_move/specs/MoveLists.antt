@@ -4,7 +4,7 @@ use Rattle.mk_model.specs.Lattices.{Lattice, lattice_of}
 use Rattle.mk_model.specs.CoreStates.{move_at}
 use Rattle.mk_model.specs.Orders.{IsOriented, lead}
 use Rattle.mk_move.specs.Gradings.{AreWeights}
-use Rattle.mk_move.specs.Masks.{IsMask, IsTold}
+use Rattle.mk_move.specs.Masks.{IsMask, HasExactMask}
 use Rattle.mk_move.specs.Moves.{Weighed, IsGraded}
 use Rattle.mk_move.specs.Priorities.{IsPriority}
 
@@ -42,10 +42,10 @@ pub record AreLeadMasks (moves : List Weighed) (masks : List ℕ) : Type 0 where
   pub count : length masks ≡ length moves
   pub each : (k : ℕ) → k < length moves → IsMask (lead (move_at (vectors_of moves) k)) (get_or masks k 0)
 
--- a flag for each move, in their order: where it is set, its mask tells the lead
-pub record AreTold (moves : List Weighed) (flags : List Bool) : Type 0 where
+-- a flag for each move, in their order: where it is set, the mask of its lead is exact
+pub record AreExact (moves : List Weighed) (flags : List Bool) : Type 0 where
   pub count : length flags ≡ length moves
-  pub each : (k : ℕ) → get_or flags k false ≡ true → IsTold (lead (move_at (vectors_of moves) k))
+  pub each : (k : ℕ) → get_or flags k false ≡ true → HasExactMask (lead (move_at (vectors_of moves) k))
 
 -- the vector of a move, where there is one
 abbrev pub vector_of : Option Weighed → Option (List ℤ)

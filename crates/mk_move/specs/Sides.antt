@@ -1,6 +1,6 @@
 -- The two parts of a vector, and how often one vector divides another. (Sturmfels, chapters 1 and 5: division by leading
 -- terms)
-use Rattle.std.specs.Prelude.{◌≡◌, ℕ, ◌≤◌, List, Some, slice_get, ℤ, pos, neg_ℤ}
+use Rattle.std.specs.Prelude.{◌≡◌, ◌⊎◌, ℕ, ◌≤◌, List, Some, slice_get, ℤ, pos, neg_ℤ}
 use Rattle.std.specs.Int.{int_max}
 use Rattle.mk_model.specs.Vectors.{positive_part, negative_part, scale}
 use Rattle.mk_model.specs.Reductions.{Divides}
@@ -16,6 +16,10 @@ part_of Minus r = negative_part r
 abbrev pub entry_on : Side → ℤ → ℤ
 entry_on Plus a = int_max a (pos 0)
 entry_on Minus a = int_max (neg_ℤ a) (pos 0)
+
+-- the two sides, in either order
+abbrev pub AreBothSides : Side → Side → Type 0
+AreBothSides first second = ((first ≡ Plus) × (second ≡ Minus)) ⊎ ((first ≡ Minus) × (second ≡ Plus))
 
 -- the greatest number of times that x divides y, and at least once
 pub record IsMostTimes (x y : List ℤ) (times : ℤ) : Type 0 where

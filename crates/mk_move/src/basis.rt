@@ -2,8 +2,8 @@ ghost use Rattle.std.specs.Prelude.{◌≡◌, ◌+◌, ◌^◌, ◌<◌, [], �
 ghost use Rattle.mk_model.specs.Vectors.{IsEntry};
 ghost use Rattle.mk_model.specs.CoreStates.{move_at};
 ghost use Rattle.mk_model.specs.Orders.{lead};
-ghost use Rattle.mk_move.specs.Masks.{IsTold, IsAtMostOne};
-ghost use Rattle.mk_move.specs.MoveLists.{BelongsTo, IsBasis, AreLeadMasks, AreTold, vectors_of};
+ghost use Rattle.mk_move.specs.Masks.{HasExactMask, IsAtMostOne};
+ghost use Rattle.mk_move.specs.MoveLists.{BelongsTo, IsBasis, AreLeadMasks, AreExact, vectors_of};
 
 use crate::grading::Grading;
 use crate::moves::Move;
@@ -31,20 +31,20 @@ impl From<PushFault> for NoMemory {
 pub struct Basis {
     moves: Vec<Move>,
     lead_masks: Vec<u64>,
-    told: Vec<bool>,
+    exact: Vec<bool>,
     priority: Priority,
     grading: Grading,
 }
 
 impl Model for Basis {
-    ghost use Rattle.mk_move.specs.MoveLists.{BasisView, IsBasis, AreLeadMasks, AreTold};
+    ghost use Rattle.mk_move.specs.MoveLists.{BasisView, IsBasis, AreLeadMasks, AreExact};
 
     ghost Value = { BasisView };
 
     ghost view = { λ b. record { moves = b.moves.items; priority = b.priority; grading = b.grading } };
 
     ghost invariant = { λ b. IsBasis (record { moves = b.moves.items; priority = b.priority; grading = b.grading })
-        × AreLeadMasks b.moves.items b.lead_masks.items × AreTold b.moves.items b.told.items };
+        × AreLeadMasks b.moves.items b.lead_masks.items × AreExact b.moves.items b.exact.items };
 }
 
 impl Basis {
@@ -58,7 +58,7 @@ impl Basis {
         Basis {
             moves: Vec::new(alloc),
             lead_masks: Vec::new(alloc),
-            told: Vec::new(alloc),
+            exact: Vec::new(alloc),
             priority,
             grading,
         }
@@ -76,14 +76,14 @@ impl Basis {
         if self.lead_masks.push(m.mask(Side::Plus)).is_err() {
             return Err(PushFault { given: m });
         }
-        if self.told.push(is_told(&m)).is_err() {
+        if self.exact.push(has_exact_mask(&m)).is_err() {
             let _ = self.lead_masks.pop();
             return Err(PushFault { given: m });
         }
         match self.moves.push(m) {
             Ok(()) => Ok(()),
             Err(failed) => {
-                let _ = self.told.pop();
+                let _ = self.exact.pop();
                 let _ = self.lead_masks.pop();
                 Err(PushFault {
                     given: failed.value,
@@ -127,13 +127,13 @@ impl Basis {
         &self.lead_masks
     }
 
-    /// Does the mask of the lead of a place tell it whole: are there at most 64 columns, and no entry above 1? (Sturmfels,
-    /// chapter 1: a squarefree monomial)
-    pub fn is_lead_told(&self, k: u32) -> bool
+    /// Is the mask of the lead of a place exact: are there at most 64 columns, and no entry above 1? True only where it is.
+    /// (Sturmfels, chapter 1: a squarefree monomial)
+    pub fn is_mask_exact(&self, k: u32) -> bool
         requires { k < length self.now.moves }
-        ensures { IsTrue result → IsTold (lead (move_at (vectors_of self.now.moves) k)) }
+        ensures { IsTrue result → HasExactMask (lead (move_at (vectors_of self.now.moves) k)) }
     {
-        self.told[k as usize]
+        self.exact[k as usize]
     }
 
     /// The list that orients its moves.
@@ -158,16 +158,16 @@ impl Basis {
         Ok(Basis {
             moves,
             lead_masks: self.lead_masks.clone()?,
-            told: self.told.clone()?,
+            exact: self.exact.clone()?,
             priority: self.priority.try_copy()?,
             grading: self.grading.try_copy()?,
         })
     }
 }
 
-/// Does its mask tell the lead of a move whole?
-fn is_told(m: &Move) -> bool
-    ensures { IsTrue result → IsTold (lead m.now.entries) }
+/// Is the mask of the lead of a move exact?
+fn has_exact_mask(m: &Move) -> bool
+    ensures { IsTrue result → HasExactMask (lead m.now.entries) }
 {
     m.columns() <= 64 && is_none_above_one(m.entries())
 }

@@ -23,7 +23,7 @@ pub fn chain_divides(basis: &Basis, i: u32, j: u32, k: u32) -> bool
     if masks[k as usize] & !(masks[i as usize] | masks[j as usize]) != 0 {
         return false;
     }
-    if basis.is_lead_told(k) {
+    if basis.is_mask_exact(k) {
         return true;
     }
     divides_by_entries(basis, i, j, k)

@@ -1,7 +1,7 @@
 ghost use Rattle.std.specs.Prelude.{◌≡◌, ◌≢◌, ◌≤◌, ◌<◌, ℕ, length, All};
 ghost use Rattle.std.specs.Int.{bit_at};
 ghost use Rattle.mk_model.specs.Vectors.{IsEntry};
-ghost use Rattle.mk_move.specs.Masks.{block_width, AreMasks};
+ghost use Rattle.mk_move.specs.Masks.{block_width, least_unmasked, AreMasks};
 
 use mk_model::Entry;
 
@@ -35,6 +35,14 @@ pub fn first_bit(bits: u64) -> (u32, u64)
     ensures fewer { result.1 < bits }
 {
     (bits.trailing_zeros(), bits & (bits - 1))
+}
+
+/// The least entry that the mask of a vector of so many columns doesn't give: with at most 64 columns it gives an entry 1.
+pub fn least_unmasked(columns: u32) -> Entry
+    ensures value { result ≡ least_unmasked columns }
+    ensures range { IsEntry result }
+{
+    if columns <= 64 { 2 } else { 1 }
 }
 
 /// How many columns a block has, of so many columns: 1 for up to 64 columns, and 8 for 512.

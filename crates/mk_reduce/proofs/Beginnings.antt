@@ -1,8 +1,6 @@
 -- The work that begins at the difference of a pair, and why it doesn't.
 use Rattle.std.proofs.Common.{◌≡◌, ℕ, ◌<◌, List, [], length, Option, Some, None, Ok, slice_get, ap, sym, ◌∙◌, arith, ℤ, pos, refl, subst, inl, IfSome}
-use Rattle.std.specs.Option.{option_map}
-use Rattle.std.proofs.lemmas.Option.{slice_get-map, get_or_from_slice_get, slice_get_within}
-use Rattle.std.proofs.lemmas.List.{length-map}
+use Rattle.std.proofs.lemmas.Option.{slice_get_within}
 use Rattle.std.proofs.lemmas.List.Elements.{All-nil}
 use Rattle.mk_model.specs.Vectors.{subtract, zeros}
 use Rattle.mk_model.specs.CoreStates.{move_at, difference, pair_of, Pair}
@@ -14,17 +12,11 @@ use Rattle.mk_move.specs.Moves.{Weighed, IsMoveKept}
 use Rattle.mk_move.specs.MoveLists.{BasisView, vectors_of}
 use Rattle.mk_move.specs.Steps.{minus_times, TakesOff, IsOverflow}
 use Rattle.mk_move.specs.declared.steps.OverflowAt.{OverflowAt}
+use Rattle.mk_move.proofs.MoveVectors.{vector_at, length-vectors_of}
 use Rattle.mk_reduce.specs.declared.stop.Stop.TheVariants.{Overflow}
 use Rattle.mk_reduce.specs.declared.step.Step.{Step}
 use Rattle.mk_reduce.specs.Works.{WorkOf, rest_of, IsRest}
 use Rattle.mk_reduce.specs.Stops.{overflow_of, IsDifferenceRefused}
-
-pub vector_at : (moves : List Weighed) (k : ℕ) (m : Weighed) → slice_get moves k ≡ Some m → move_at (vectors_of moves) k ≡ m.entries
-vector_at moves k m h =
-    get_or_from_slice_get (vectors_of moves) k m.entries [] (slice_get-map (λ (m : Weighed). m.entries) moves k ∙ ap (option_map (λ (m : Weighed). m.entries)) h)
-
-pub length-vectors_of : (moves : List Weighed) → length (vectors_of moves) ≡ length moves
-length-vectors_of moves = length-map moves (λ m. m.entries)
 
 pub difference_at : (moves : List Weighed) (i j : ℕ) (a b : Weighed) → slice_get moves i ≡ Some a → slice_get moves j ≡ Some b → minus_times b.entries (pos 1) a.entries ≡ difference (vectors_of moves) (pair_of i j)
 difference_at moves i j a b h k =

@@ -5,9 +5,9 @@ use Rattle.mk_model.specs.CoreStates.{move_at}
 use Rattle.mk_model.specs.Overflows.{IsTimesDividing}
 use Rattle.mk_move.specs.Moves.{Weighed}
 use Rattle.mk_move.specs.MoveLists.{BasisView, IsBasis, vectors_of}
+use Rattle.mk_move.proofs.MoveVectors.{length-vectors_of}
 use Rattle.mk_reduce.specs.declared.step.Step.{Step}
 use Rattle.mk_reduce.specs.Works.{IsReductionStep, after_step}
-use Rattle.mk_reduce.proofs.Beginnings.{length-vectors_of}
 use Rattle.mk_reduce.proofs.Heights.{height, step_lowers, IsLevel}
 use Rattle.mk_reduce.proofs.BasisMoves.{grading_of, level_of}
 

@@ -1,30 +1,20 @@
 -- A number that each step of reduction lowers: first by the weight of what is left, then by the ranks of its two parts.
-use Rattle.std.proofs.Common.{◌≡◌, ◌⊎◌, inl, inr, ℕ, zero, suc, ◌+◌, ◌*◌, ◌^◌, ◌≤◌, ◌<◌, List, [], ◌∷◌, length, ℤ, pos, neg_ℤ, ◌-ℤ◌, ◌*ℤ◌, ◌<ℤ◌, arith, ap, refl, sym, ◌∙◌, subst, ⊎_elim}
+use Rattle.std.proofs.Common.{◌≡◌, ◌⊎◌, inl, inr, ℕ, zero, suc, ◌+◌, ◌*◌, ◌^◌, ◌≤◌, ◌<◌, List, length, ℤ, pos, neg_ℤ, ◌-ℤ◌, ◌*ℤ◌, ◌<ℤ◌, arith, ap, refl, sym, ◌∙◌, subst, ⊎_elim}
 use Rattle.std.proofs.lemmas.Int.{ints}
 use Rattle.std.proofs.Math.Nat.{pow-le-pow_left, mul-le-mul}
 use borrow.Author.Differences.{up}
-use Rattle.mk_model.specs.Vectors.{entry, subtract, scale, positive_part, negative_part, weight, IsPoint}
+use Rattle.mk_model.specs.Vectors.{subtract, scale, positive_part, negative_part, weight, IsPoint}
 use Rattle.mk_model.specs.Lattices.{lattice_of, HasGrading}
 use Rattle.mk_model.specs.Orders.{IsBelow, IsOriented, lead, tail}
 use Rattle.mk_model.specs.Reductions.{Divides}
-use Rattle.mk_model.proofs.Integers.{product_below}
-use Rattle.mk_model.proofs.VectorAlgebra.{lengths, columns, entries, same_vectors, weight-subtract, weight-scale, weight-parts, positive_part-scale, negative_part-scale, IsPoint-positive_part, IsPoint-negative_part}
-use Rattle.mk_model.proofs.OrderLaws.{IsBelow-subtract}
+use Rattle.mk_model.proofs.VectorAlgebra.{lengths, columns, same_vectors, weight-subtract, weight-scale, weight-parts, positive_part-scale, IsPoint-positive_part, IsPoint-negative_part}
+use Rattle.mk_model.proofs.OrderLaws.{IsBelow-subtract, IsOriented-scale}
 use Rattle.mk_model.proofs.Divisors.{IsPoint-lower}
 use Rattle.mk_model.proofs.Ranks.{rank, rank_limit, rank_below, IsBounded, IsBounded-weight}
 use Rattle.mk_model.proofs.MoveRanks.{weight_down}
 use Rattle.mk_model.proofs.Fibres.{lead_of_difference}
 use Rattle.mk_model.specs.Overflows.{IsTimesDividing}
 use Rattle.mk_move.specs.Steps.{minus_times}
-
--- one positive factor for both keeps the order
-IsBelow-scale : (p : List ℕ) (k : ℕ) (x y : List ℤ) → IsBelow p x y → IsBelow p (scale (pos (suc k)) x) (scale (pos (suc k)) y)
-IsBelow-scale [] k x y h = h
-IsBelow-scale (c ∷ p) k x y (inl h) = inl (simp entries (product_below k (entry y c) (entry x c) h))
-IsBelow-scale (c ∷ p) k x y (inr (e, h)) = inr (simp entries (ap (λ a. pos (suc k) *ℤ a) e), IsBelow-scale p k x y h)
-
-IsOriented-scale : (p : List ℕ) (k : ℕ) (m : List ℤ) → IsOriented p m → IsOriented p (scale (pos (suc k)) m)
-IsOriented-scale p k m h = simp (positive_part-scale, negative_part-scale) (IsBelow-scale p k (negative_part m) (positive_part m) h)
 
 -- ---- the number
 abbrev pub height_of : ℕ → List ℕ → List ℤ → List ℤ → ℕ

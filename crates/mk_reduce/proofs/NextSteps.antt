@@ -1,29 +1,27 @@
 -- The step by a move whose lead divides a part of a vector, and why there is none.
-use Rattle.std.proofs.Common.{◌≡◌, ◌≢◌, ◌⊎◌, inl, inr, ℕ, zero, suc, ◌≤◌, negsuc, unsigned_abs, List, length, Some, slice_get, get_or, All, ℤ, pos, neg_ℤ, ◌-ℤ◌, arith, ap, sym, ◌∙◌, subst, false, ⊎_elim}
+use Rattle.std.proofs.Common.{◌≡◌, ◌⊎◌, inl, inr, ℕ, zero, suc, ◌≤◌, negsuc, unsigned_abs, List, length, Some, slice_get, get_or, All, ℤ, pos, neg_ℤ, ◌-ℤ◌, arith, ap, sym, ◌∙◌, subst}
 use Rattle.std.proofs.lemmas.Int.{ints, clamps}
 use Rattle.std.proofs.lemmas.Option.{slice_get_within}
-use Rattle.std.proofs.lemmas.Bool.{cases_Bool}
 use Rattle.std.proofs.lemmas.List.Elements.{All-map, All-weaker}
 use Rattle.std.proofs.Math.ListN.{get_or-map}
 use Rattle.std.proofs.lemmas.Simd.{map-map}
-use Rattle.mk_model.proofs.VectorAlgebra.{only_zeros, length-positive_part}
-use Rattle.mk_model.proofs.LatticeLaws.{is_zero-entries}
-use Rattle.mk_model.specs.Vectors.{zeros, positive_part, negative_part, IsEntry}
-use Rattle.mk_model.specs.Lattices.{is_zero}
+use Rattle.mk_model.proofs.VectorAlgebra.{length-positive_part}
+use Rattle.mk_model.proofs.LatticeLaws.{is_zero-false}
+use Rattle.mk_model.specs.Vectors.{positive_part, negative_part, IsEntry}
 use Rattle.mk_model.specs.Orders.{lead}
 use Rattle.mk_model.specs.Reductions.{Divides, IsNormal, IsIrreducible}
 use Rattle.mk_model.specs.Overflows.{IsTimesDividing}
 use Rattle.mk_move.specs.Moves.{Weighed, IsMoveKept}
 use Rattle.mk_move.specs.MoveLists.{BasisView, IsBasis, BelongsTo, vectors_of}
-use Rattle.mk_move.specs.Sides.{part_of, entry_on, IsMostTimes, DividesAt}
+use Rattle.mk_move.specs.Sides.{part_of, entry_on, IsMostTimes, DividesAt, AreBothSides}
 use Rattle.mk_move.proofs.Entries.{as_entry, entry_read}
 use Rattle.mk_move.proofs.Divisions.{not_on_both}
 use Rattle.mk_move.specs.declared.side.Side.{Side}
 use Rattle.mk_move.specs.declared.side.Side.TheVariants.{Plus, Minus}
+use Rattle.mk_move.proofs.MoveVectors.{vector_at, length-vectors_of}
 use Rattle.mk_reduce.specs.Leads.{leads_of}
-use Rattle.mk_reduce.specs.Works.{IsReductionStep, AreBothSides}
+use Rattle.mk_reduce.specs.Works.{IsReductionStep}
 use Rattle.mk_reduce.proofs.LeadLists.{lead_at, length-leads_of}
-use Rattle.mk_reduce.proofs.Beginnings.{vector_at, length-vectors_of}
 
 -- the lead at the place is that of the move
 pub divides_at : (moves : List Weighed) (x : List ℤ) (place : ℕ) (m : Weighed) → slice_get moves place ≡ Some m → DividesAt (leads_of moves) x place → Divides (lead m.entries) x
@@ -99,9 +97,6 @@ lead_columns basis r h l =
     All-map (λ (x : List ℤ). length x ≡ length r) (λ (m : Weighed). lead m.entries) basis.moves
     (All-weaker (BelongsTo basis.priority basis.grading) (λ (m : Weighed). length (lead m.entries) ≡ length r) (λ m b. length-positive_part m.entries ∙ b.columns ∙ h.columns ∙ sym l) basis.moves h.moves)
 
-not_zero : (r : List ℤ) → r ≢ zeros (length r) → is_zero r ≡ false
-not_zero r h = ⊎_elim (λ e. absurd (h (only_zeros r (is_zero-entries r e)))) (λ e. e) (cases_Bool (is_zero r))
-
 irreducible : (moves : List Weighed) (x : List ℤ) → All (λ (l : List ℤ). ¬ (Divides l x)) (leads_of moves) → IsIrreducible (vectors_of moves) x
 irreducible moves x h v (k, l, e) d =
     let at : get_or (leads_of moves) k (lead v) ≡ lead v =
@@ -110,7 +105,7 @@ irreducible moves x h v (k, l, e) d =
 
 pub normal : (moves : List Weighed) (m : Weighed) → IsMoveKept m → All (λ (l : List ℤ). ¬ (Divides l (part_of Plus m.entries))) (leads_of moves) → All (λ (l : List ℤ). ¬ (Divides l (part_of Minus m.entries))) (leads_of moves) → IsNormal (vectors_of moves) m.entries
 normal moves m k h j = record {
-  not_zero = not_zero m.entries k.not_zero;
+  not_zero = is_zero-false m.entries k.not_zero;
   positive = irreducible moves (positive_part m.entries) h;
   negative = irreducible moves (negative_part m.entries) j;
 }

@@ -8,8 +8,6 @@ use Rattle.mk_model.specs.Reductions.{Reduct, IsNormal}
 use Rattle.mk_move.specs.Moves.{Weighed, IsGraded, IsMoveKept}
 use Rattle.mk_move.specs.MoveLists.{BasisView, vectors_of}
 use Rattle.mk_move.specs.Steps.{minus_times}
-use Rattle.mk_move.specs.declared.side.Side.{Side}
-use Rattle.mk_move.specs.declared.side.Side.TheVariants.{Plus, Minus}
 use Rattle.mk_reduce.specs.declared.step.Step.{Step}
 
 -- the pair, how many of the first moves it has been reduced by, what is left, and the steps in their order
@@ -63,7 +61,3 @@ IsReduced moves (Some m) = IsNormal moves m.entries
 -- the trace has the earlier steps, and maybe more behind them
 abbrev pub ContinuesWork : List Step → List Step → Type 0
 ContinuesWork earlier trace = (more : List Step) × (trace ≡ earlier ++ more)
-
--- the two sides of a vector, in either order
-abbrev pub AreBothSides : Side → Side → Type 0
-AreBothSides first second = ((first ≡ Plus) × (second ≡ Minus)) ⊎ ((first ≡ Minus) × (second ≡ Plus))

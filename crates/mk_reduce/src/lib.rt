@@ -2,6 +2,7 @@
 #![tactic(auto)]
 
 mod critical_pair;
+mod keeper;
 mod plain;
 mod reduction;
 mod remainder;

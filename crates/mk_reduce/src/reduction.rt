@@ -4,28 +4,22 @@ ghost use Rattle.mk_model.specs.Reductions.{IsNormal};
 ghost use Rattle.mk_move.specs.MoveLists.{IsBasis, vectors_of};
 ghost use Rattle.mk_move.specs.Sides.{part_of, DividesAt};
 ghost use Rattle.mk_reduce.specs.Leads.{leads_of};
-ghost use Rattle.mk_reduce.specs.Remainders.{IsUnweighed};
-ghost use Rattle.mk_reduce.specs.Traces.{ReducesWithTrace};
-ghost use Rattle.mk_reduce.specs.Works.{WorkOf, IsReductionStep, IsReduced, ContinuesWork, AreBothSides};
+ghost use Rattle.mk_reduce.specs.Traces.{IsUnweighed, ReducesKeeping};
+ghost use Rattle.mk_reduce.specs.Works.{WorkOf, IsReductionStep, IsReduced, ContinuesWork};
 ghost use Rattle.mk_reduce.specs.Stops.{IsStepRefused};
 
+use crate::keeper::StepKeeper;
 use crate::step::Step;
 use crate::stop::Stop;
 use crate::work::Work;
-use mk_move::{Basis, Finder, Move, Priority, Side, times_dividing};
-use std::alloc::Global;
+use mk_move::{Basis, Finder, Move, Side, times_dividing};
 
 /// Reduces the work on a pair by the basis until nothing is left, or what is left is normal: no lead of the basis divides
 /// either part. Each step takes a move off as many times as its lead divides; by which move, and on which part, is free.
 /// The leads of the finder are those of the basis. `Overflow` names the move and the first column by which a step from
 /// what is kept leaves the range. After a refusal the steps done stay, and the front is 0. (Sturmfels, chapters 1 and 5:
 /// reduction to a normal form)
-pub fn reduce<F: Finder>(
-    _alloc: Global,
-    work: &mut Work,
-    basis: &Basis,
-    finder: &F,
-) -> Result<(), Stop>
+pub fn reduce<F: Finder>(work: &mut Work, basis: &Basis, finder: &F) -> Result<(), Stop>
     requires leads { F.leads finder.now ≡ leads_of basis.now.moves }
     requires work { WorkOf work.old basis.now }
     ensures work { WorkOf work.new basis.now }
@@ -40,7 +34,7 @@ pub fn reduce<F: Finder>(
     let Some(rest) = &mut work.remainder else {
         return Ok(());
     };
-    match reduce_with_trace(rest, &mut work.trace, basis, finder) {
+    match reduce_keeping(rest, &mut work.trace, basis, finder) {
         Ok(true) => {
             rest.weigh(basis.grading());
             prove!(rest.columns() == basis.grading().columns());
@@ -60,26 +54,26 @@ pub fn reduce<F: Finder>(
 }
 
 /// Reduces a row by the basis until no lead divides either part: true; or until a step leaves zero: false; or until a step
-/// is refused. The steps are put to the end of the trace. The weight of the row isn't kept.
-fn reduce_with_trace<F: Finder>(
+/// is refused. The steps are kept behind the earlier ones. The weight of the row isn't kept.
+pub(crate) fn reduce_keeping<F: Finder, K: StepKeeper>(
     rest: &mut Move,
-    trace: &mut Vec<Step>,
+    keeper: &mut K,
     basis: &Basis,
     finder: &F,
 ) -> Result<bool, Stop>
     requires basis { IsBasis basis.now }
     requires leads { F.leads finder.now ≡ leads_of basis.now.moves }
     requires unweighed { IsUnweighed basis.now.grading rest.old }
-    ensures { ReducesWithTrace basis.now rest.old.entries trace.old.items result rest.new trace.new.items }
+    ensures { ReducesKeeping basis.now rest.old.entries (K.has keeper.old) result rest.new (K.has keeper.new) }
 {
     while let Some(step) = next_step(rest, basis, finder) {
         // Where there is no memory for the step, nothing has changed yet.
-        trace.push(step)?;
+        keeper.keep(step)?;
         match rest.take_off(step.times, basis.move_at(step.place)) {
             Ok(true) => {}
             Ok(false) => return Ok(false),
             Err(at) => {
-                let _ = trace.pop();
+                keeper.take_back();
                 return Err(Stop::Overflow {
                     by: Some(step.place),
                     at,
@@ -113,7 +107,7 @@ fn step_at(rest: &Move, basis: &Basis, place: u32, side: Side) -> Step
 
 /// A step of reduction of a move, by which move and on which part is free; none exactly where it is normal. The part that is
 /// likely the greater is tried first: two monomials that have one normal form meet sooner where the greater is reduced.
-pub(crate) fn next_step<F: Finder>(rest: &Move, basis: &Basis, finder: &F) -> Option<Step>
+fn next_step<F: Finder>(rest: &Move, basis: &Basis, finder: &F) -> Option<Step>
     requires basis { IsBasis basis.now }
     requires leads { F.leads finder.now ≡ leads_of basis.now.moves }
     requires columns { length rest.now.entries ≡ length basis.now.grading }
@@ -122,39 +116,10 @@ pub(crate) fn next_step<F: Finder>(rest: &Move, basis: &Basis, finder: &F) -> Op
     ensures none { IfNone result (IsNormal (vectors_of basis.now.moves) rest.now.entries) }
 {
     prove!(rest.columns() == basis.grading().columns());
-    let (first, second) = likely_sides(rest, basis.priority());
+    let (first, second) = rest.likely_sides(basis.priority());
     if let Some(place) = finder.find(rest, first) {
         return Some(step_at(rest, basis, place, first));
     }
     let place = finder.find(rest, second)?;
     Some(step_at(rest, basis, place, second))
-}
-
-/// Both sides, that of the part which is likely the greater by the list first: the other has the first column of the list
-/// where an entry is. Behind its first column the list is taken to go from the last column to the first.
-fn likely_sides(rest: &Move, priority: &Priority) -> (Side, Side)
-    ensures { AreBothSides result.0 result.1 }
-{
-    let plus = rest.mask(Side::Plus);
-    let minus = rest.mask(Side::Minus);
-    let first = first_mask(priority);
-    let is_plus_lesser = if (plus | minus) & first != 0 {
-        plus & first != 0
-    } else {
-        plus > minus
-    };
-    if is_plus_lesser {
-        (Side::Minus, Side::Plus)
-    } else {
-        (Side::Plus, Side::Minus)
-    }
-}
-
-/// The mask of the first column of a list of at most 64, and 0 for a longer or an empty one.
-fn first_mask(priority: &Priority) -> u64 {
-    let columns = priority.columns();
-    if columns == 0 || columns > 64 {
-        return 0;
-    }
-    1 << priority.column_at(0)
 }

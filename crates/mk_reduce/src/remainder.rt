@@ -6,9 +6,12 @@ ghost use Rattle.mk_model.specs.Reductions.{Reduct};
 ghost use Rattle.mk_model.specs.Vectors.{weight, positive_part};
 ghost use Rattle.mk_move.specs.MoveLists.{IsBasis, vectors_of};
 ghost use Rattle.mk_reduce.specs.Leads.{leads_of};
-ghost use Rattle.mk_reduce.specs.Remainders.{IsRemainder, IsRemainderFault, IsUnweighed, ReducesInPlace};
+ghost use Rattle.mk_reduce.specs.Remainders.{IsRemainder, IsRemainderFault};
+ghost use Rattle.mk_reduce.specs.Traces.{IsUnweighed};
 
-use crate::reduction::next_step;
+use crate::keeper::NoTrace;
+use crate::reduction::reduce_keeping;
+use crate::stop::Stop;
 use mk_model::NoMemory;
 use mk_move::{Basis, Finder, Grading, Move, OverflowAt};
 
@@ -122,11 +125,12 @@ fn normal_left<F: Finder>(
     ensures { (pair : Pair) → Reduct (vectors_of basis.now.moves) (difference (vectors_of basis.now.moves) pair) rest.old.entries →
         MatchResult result (IsRemainder basis.now pair) (IsRemainderFault (vectors_of basis.now.moves) pair) }
 {
-    match reduce_in_place(rest, basis, finder) {
+    match reduce_keeping(rest, &mut NoTrace, basis, finder) {
         Ok(true) => Ok(Some(weighed(rest, basis.grading())?)),
         Ok(false) => Ok(None),
-        Err(Blocked { place, at }) => Err(RemainderFault::Overflow {
-            by: Some(place),
+        Err(Stop::Memory) => Err(RemainderFault::Memory),
+        Err(Stop::Overflow { by, at }) => Err(RemainderFault::Overflow {
+            by,
             operand: Some(weighed(rest, basis.grading())?),
             at,
         }),
@@ -140,34 +144,4 @@ fn weighed(row: &mut Move, grading: &Grading) -> Result<Move, NoMemory>
 {
     row.weigh(grading);
     row.try_copy()
-}
-
-/// A step by the move of a place, where an entry leaves the range.
-#[derive(Clone, Copy, Debug, PartialEq, Eq)]
-struct Blocked {
-    place: u32,
-    at: OverflowAt,
-}
-
-/// Reduces a row by the basis until no lead divides either part: true; or until a step leaves zero: false; or until a step
-/// leaves the range of entries. The weight of the row isn't kept.
-fn reduce_in_place<F: Finder>(rest: &mut Move, basis: &Basis, finder: &F) -> Result<bool, Blocked>
-    requires basis { IsBasis basis.now }
-    requires leads { F.leads finder.now ≡ leads_of basis.now.moves }
-    requires unweighed { IsUnweighed basis.now.grading rest.old }
-    ensures { ReducesInPlace basis.now rest.old.entries result rest.new }
-{
-    while let Some(step) = next_step(rest, basis, finder) {
-        match rest.take_off(step.times, basis.move_at(step.place)) {
-            Ok(true) => {}
-            Ok(false) => return Ok(false),
-            Err(at) => {
-                return Err(Blocked {
-                    place: step.place,
-                    at,
-                });
-            }
-        }
-    }
-    Ok(true)
 }

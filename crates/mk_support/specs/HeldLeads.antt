@@ -1,9 +1,8 @@
--- A lead by its mask and by the entries that the mask doesn't tell.
-use Rattle.std.specs.Prelude.{◌≡◌, ◌⊎◌, ℕ, ◌<◌, ◌≤◌, ◌==◌, nat_lt, if◌then◌else◌, List, [], ◌∷◌, map, length, All, ℤ, pos, ◌≤ℤ◌, ◌<ℤ◌}
-use Rattle.std.specs.Int.{bit_at}
+-- A lead by its mask and by the entries that the mask doesn't give.
+use Rattle.std.specs.Prelude.{◌≡◌, ◌⊎◌, ℕ, ◌<◌, ◌≤◌, ◌==◌, if◌then◌else◌, List, [], ◌∷◌, map, length, All, ℤ, pos, ◌≤ℤ◌, ◌<ℤ◌}
 use Rattle.mk_model.specs.Vectors.{entry, IsEntry}
 use Rattle.mk_model.specs.FreeColumns.{all_columns}
-use Rattle.mk_move.specs.Masks.{IsMask}
+use Rattle.mk_move.specs.Masks.{IsMask, entry_by_mask}
 use Rattle.mk_support.specs.declared.held.ColumnEntry.{ColumnEntry}
 
 -- the entry that is listed for a column, and the other one where there is none
@@ -11,17 +10,9 @@ abbrev pub listed_or : List ColumnEntry → ℕ → ℤ → ℤ
 listed_or [] c other = other
 listed_or (e ∷ listed) c other = if e.column == c then e.entry else listed_or listed c other
 
--- the entry of a column that a mask tells, where each column has a bit
-abbrev pub told : ℕ → ℕ → ℕ → ℤ
-told columns mask c = if nat_lt 64 columns then pos 0 else pos (bit_at mask c)
-
--- the least entry that a mask of so many columns doesn't tell
-abbrev pub least_listed : ℕ → ℤ
-least_listed columns = if nat_lt 64 columns then pos 1 else pos 2
-
--- the lead: the entries that are listed, and those that the mask tells
+-- the lead: the entries that are listed, and those that the mask gives
 unfoldable pub lead_of : ℕ → ℕ → List ColumnEntry → List ℤ
-lead_of columns mask listed = map (λ c. listed_or listed c (told columns mask c)) (all_columns columns)
+lead_of columns mask listed = map (λ c. listed_or listed c (entry_by_mask columns mask c)) (all_columns columns)
 
 -- it is an entry of the vector, and positive
 pub record IsEntryOf (x : List ℤ) (e : ColumnEntry) : Type 0 where

@@ -4,10 +4,10 @@ ghost use Rattle.mk_model.specs.Vectors.{IsEntry, positive_part};
 ghost use Rattle.mk_model.specs.Reductions.{Divides};
 ghost use Rattle.mk_move.specs.Masks.{HasPositive};
 ghost use Rattle.mk_move.specs.Sides.{part_of, entry_on};
-ghost use Rattle.mk_support.specs.HeldLeads.{ListsFrom, Fits, least_listed};
+ghost use Rattle.mk_support.specs.HeldLeads.{ListsFrom, Fits};
 
 use mk_model::{Entry, NoMemory};
-use mk_move::{Move, Side};
+use mk_move::{Move, Side, least_unmasked};
 use std::alloc::Global;
 use std::marker::Model;
 
@@ -18,8 +18,7 @@ pub(crate) struct ColumnEntry {
     entry: Entry,
 }
 
-/// The lead of a move, by its mask and by those of its positive entries that the mask doesn't tell: with at most 64
-/// columns it tells an entry 1.
+/// The lead of a move, by its mask and by those of its positive entries that the mask doesn't give.
 #[derive(Debug, Drop)]
 pub(crate) struct HeldLead {
     columns: u32,
@@ -44,7 +43,7 @@ impl HeldLead {
         ensures { IfOk result (λ lead. lead ≡ positive_part m.now.entries) }
     {
         let columns = m.columns();
-        let listed = entries_from(alloc, m.entries(), least_listed(columns))?;
+        let listed = entries_from(alloc, m.entries(), least_unmasked(columns))?;
         Ok(HeldLead {
             columns,
             mask: m.mask(Side::Plus),
@@ -61,14 +60,6 @@ impl HeldLead {
     {
         all_fit(&self.listed, r.entries(), side)
     }
-}
-
-/// The least entry that a mask of so many columns doesn't tell.
-fn least_listed(columns: u32) -> Entry
-    ensures value { result ≡ least_listed columns }
-    ensures range { IsEntry result }
-{
-    if columns <= 64 { 2 } else { 1 }
 }
 
 /// The entries of a row of at most 512 columns from that number on, which is at least 1, in the order of their columns.

@@ -2,7 +2,7 @@ use Rattle.std.proofs.Common.{arith, subst, All, List, ℤ}
 use Rattle.mk_model.proofs.VectorAlgebra.{length-positive_part}
 use Rattle.mk_move.specs.Masks.{IsAtMostOne}
 use Rattle.mk_move.proofs.LeadMasks.{squarefree_lead}
-use Rattle.mk_move.proofs.basis.is_told.Goals as goal
+use Rattle.mk_move.proofs.basis.has_exact_mask.Goals as goal
 
 pub returns-then-columns-le64 : goal.returns-then-columns-le64
 returns-then-columns-le64 c = λ t. record {

@@ -16,7 +16,8 @@ use Rattle.mk_ledger.specs.declared.ledger.Ledger.TheInside.{Inside}
 
 -- a place of a list of one value alone
 same_everywhere : {X : Type 0} (n i : ℕ) (x : X) → get_or (replicate n x) i x ≡ x
-same_everywhere n i x = ⊎_elim (λ l. get_or-replicate n i x x l) (λ l. get_or_past (replicate n x) i x (omega (arith, l, length-replicate n x))) (cases_lt i n)
+same_everywhere n i x =
+    ⊎_elim (λ l. get_or-replicate n i x x l) (λ l. get_or_past (replicate n x) i x (omega (arith, l, length-replicate n x))) (cases_lt i n)
 
 module _ (start : List (List ℤ)) (budget limit workers : ℕ) where
   abbrev first_state : CoreState
@@ -39,11 +40,16 @@ module _ (start : List (List ℤ)) (budget limit workers : ℕ) where
   pub new_flagged : AreFlagged first_state (replicate (pairs_of (length start)) false)
   new_flagged = record {
     count = length-replicate (pairs_of (length start)) false;
-    each = λ pair h. (λ e. absurd (false≢true (sym (same_everywhere (pairs_of (length start)) (number_of pair) false) ∙ e)), λ s. absurd (not_settled pair s));
+    each = λ pair h. (
+      λ e. absurd (false≢true (sym (same_everywhere (pairs_of (length start)) (number_of pair) false) ∙ e)),
+      λ s. absurd
+          (not_settled pair s),
+    );
   }
 
 -- the parts of a state that begins
-pub begun : (start : List (List ℤ)) (budget limit workers start_length next : ℕ) (journal : List Settle) (claims : List (Option Pair)) (halts : List (Option Halt)) →
+pub begun : (start : List (List ℤ)) (budget limit workers start_length next : ℕ) (journal : List Settle) (claims : List (Option Pair))
+    (halts : List (Option Halt)) →
     start_length ≡ length start → journal ≡ [] → claims ≡ replicate workers None → next ≡ 0 → halts ≡ replicate workers None →
     record {
       start_length = start_length;
@@ -67,21 +73,26 @@ pub record AreBounds (moves limit workers : ℕ) : Type 0 where
   pub some : 1 ≤ workers
   pub few : workers ≤ 64
 
-pub new_fields : (fields : Inside) → (ledger_of fields).state ≡ new_state (vectors_of fields.basis.moves) fields.budget fields.limit fields.workers →
+pub new_fields : (fields : Inside) →
+    (ledger_of fields).state ≡ new_state (vectors_of fields.basis.moves) fields.budget fields.limit fields.workers →
     IsBasis fields.basis → AreBounds (length fields.basis.moves) fields.limit fields.workers →
-    fields.settled.moves ≡ length fields.basis.moves → fields.settled.flags ≡ replicate (pairs_of (length fields.basis.moves)) false → AreFields fields
+    fields.settled.moves ≡ length fields.basis.moves → fields.settled.flags ≡ replicate (pairs_of (length fields.basis.moves)) false →
+    AreFields fields
 new_fields fields e basis bounds moves flags = record {
   ledger = record {
     basis = basis;
     moves = refl;
     legal = subst (IsLegal (length fields.basis.grading) fields.basis.priority) (sym e)
-        (new_is_legal (length fields.basis.grading) fields.basis.priority start fields.budget fields.limit fields.workers (omega (arith, size, bounds.room)));
+        (new_is_legal (length fields.basis.grading) fields.basis.priority start fields.budget fields.limit fields.workers
+        (omega (arith, size, bounds.room)));
     limit = bounds.bounded;
     some = bounds.some;
     workers = bounds.few;
   };
   flags_moves = moves;
-  flagged = subst (λ state. AreFlagged state fields.settled.flags) (sym e) (subst (AreFlagged (new_state start fields.budget fields.limit fields.workers)) (sym here) (new_flagged start fields.budget fields.limit fields.workers));
+  flagged = subst (λ state. AreFlagged state fields.settled.flags) (sym e)
+      (subst (AreFlagged (new_state start fields.budget fields.limit fields.workers)) (sym here)
+      (new_flagged start fields.budget fields.limit fields.workers));
   in_order = subst AreInOrder (sym e) (new_in_order start fields.budget fields.limit fields.workers);
 }
   where

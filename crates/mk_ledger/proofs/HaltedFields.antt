@@ -29,29 +29,52 @@ all_pairs_few : pairs_of 65536 < 2 ^ 64
 unfolding pairs_of
 all_pairs_few = omega arith
 
-module _ (fields : Inside) (kept : AreFields fields) (ledger : LedgerView) (seen : ledger_of fields ≡ ledger) (worker : ℕ) (halt : Halt) (within : worker < ledger.state.workers) (no_halt : halt_of ledger.state worker ≡ None) (cause : IsHaltCause ledger.state worker halt) where
+module _ (fields : Inside) (kept : AreFields fields) (ledger : LedgerView) (seen : ledger_of fields ≡ ledger) (worker : ℕ) (halt : Halt)
+    (within : worker < ledger.state.workers) (no_halt : halt_of ledger.state worker ≡ None)
+    (cause : IsHaltCause ledger.state worker halt) where
   abbrev state : CoreState
   state = (ledger_of fields).state
 
   halting : IsHalting state worker halt (with_halt state worker halt)
-  halting = subst (λ l. IsHalting l.state worker halt (with_halt l.state worker halt)) (sym seen) (record { worker_within = within; no_halt = no_halt; cause = cause; changed = refl })
+  halting = subst (λ l. IsHalting l.state worker halt (with_halt l.state worker halt)) (sym seen) (record {
+    worker_within = within;
+    no_halt = no_halt;
+    cause = cause;
+    changed = refl;
+  })
 
   legal_after : IsLegal (length fields.basis.grading) fields.basis.priority (with_halt state worker halt)
-  legal_after = events_keep (length fields.basis.grading) fields.basis.priority state (Halts worker halt) (with_halt state worker halt) kept.ledger.legal halting
+  legal_after = events_keep (length fields.basis.grading) fields.basis.priority state (Halts worker halt)
+      (with_halt state worker halt) kept.ledger.legal halting
 
-  module _ (read : Option Pair) (some : Bool) (count : ℕ) (is_read : read ≡ get_or fields.claims.items worker read) (tested : some ≡ is_some read) (counted : count ≡ bool_byte some) where
+  module _ (read : Option Pair) (some : Bool) (count : ℕ) (is_read : read ≡ get_or fields.claims.items worker read)
+      (tested : some ≡ is_some read) (counted : count ≡ bool_byte some) where
     count_is : count ≡ given_up (claim_of state worker)
     count_is =
         let inside : worker < length fields.claims.items = omega (arith, kept.ledger.legal.claims_by_workers, halting.worker_within) in
-        counted ∙ ap bool_byte tested ∙ counts_given_up read ∙ ap given_up (is_read ∙ get_or_default fields.claims.items worker read None inside)
+        counted ∙ ap bool_byte tested ∙ counts_given_up read
+        ∙ ap given_up (is_read ∙ get_or_default fields.claims.items worker read None inside)
 
     pub halt_fits : fields.given_up + count < 2 ^ 64
     halt_fits =
-        omega (arith, count_is, legal_after.claims_counted, kept.in_order.made, pairs_of_least (length state.basis) 65536 (omega (arith, kept.ledger.legal.basis_within, kept.ledger.limit)), all_pairs_few)
+        omega (
+          arith,
+          count_is,
+          legal_after.claims_counted,
+          kept.in_order.made,
+          pairs_of_least (length state.basis) 65536
+              (omega (arith, kept.ledger.legal.basis_within, kept.ledger.limit)),
+          all_pairs_few,
+        )
 
     module _ (first : Option ℕ) (is_first : first ≡ option_or fields.first (Some worker)) where
       abbrev after : Inside
-      after = record fields { claims = with_item fields.claims worker None; given_up = fields.given_up + count; halts = with_item fields.halts worker (Some halt); first = first }
+      after = record fields {
+        claims = with_item fields.claims worker None;
+        given_up = fields.given_up + count;
+        halts = with_item fields.halts worker (Some halt);
+        first = first;
+      }
 
       halted : (ledger_of after).state ≡ with_halt state worker halt
       halted = ap (λ g. record (ledger_of after).state { claims_given_up = fields.given_up + g }) count_is
@@ -68,7 +91,8 @@ module _ (fields : Inside) (kept : AreFields fields) (ledger : LedgerView) (seen
           workers = kept.ledger.workers;
         };
         flags_moves = kept.flags_moves;
-        flagged = subst (λ s. AreFlagged s fields.settled.flags) (sym halted) (halt_keeps_flags fields.settled.flags kept.flagged worker halt);
+        flagged = subst (λ s. AreFlagged s fields.settled.flags) (sym halted)
+            (halt_keeps_flags fields.settled.flags kept.flagged worker halt);
         in_order = subst AreInOrder (sym halted) (halt_keeps_order kept.ledger.legal kept.in_order worker halt);
       }
 

@@ -13,7 +13,8 @@ some_first : (o : Option ℕ) (worker : ℕ) → first_of o worker ≢ None
 some_first None worker e = none-some worker (sym e)
 some_first (Some earlier) worker e = none-some earlier (sym e)
 
-module _ {n : ℕ} {priority : List ℕ} {state : CoreState} (legal : IsLegal n priority state) (order : AreInOrder state) (worker : ℕ) (halt : Halt) where
+module _ {n : ℕ} {priority : List ℕ} {state : CoreState} (legal : IsLegal n priority state) (order : AreInOrder state) (worker : ℕ)
+    (halt : Halt) where
   abbrev after : CoreState
   after = with_halt state worker halt
 
@@ -64,5 +65,6 @@ module _ {n : ℕ} {priority : List ℕ} {state : CoreState} (legal : IsLegal n 
     before = before (claim_of state worker) refl order.before;
   }
 
-pub halt_keeps_flags : {state : CoreState} (flags : List Bool) → AreFlagged state flags → (worker : ℕ) (halt : Halt) → AreFlagged (with_halt state worker halt) flags
+pub halt_keeps_flags : {state : CoreState} (flags : List Bool) → AreFlagged state flags →
+    (worker : ℕ) (halt : Halt) → AreFlagged (with_halt state worker halt) flags
 halt_keeps_flags flags h worker halt = record { count = h.count; each = h.each }

@@ -1,6 +1,5 @@
 pub mod PairNumbers
 pub mod Words
-pub mod JournalRuns
 pub mod InOrder
 pub mod HeldClaims
 pub mod Claiming

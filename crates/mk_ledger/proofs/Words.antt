@@ -18,10 +18,12 @@ with_bit words number = set words (number / 64) (bit_or (get_or words (number / 
 pub flag_set_same : (words : List ℕ) (number : ℕ) → number / 64 < length words → flag_at (with_bit words number) number ≡ true
 unfolding flag_at
 flag_set_same words number l =
-    ap (λ w. bit_at w (number % 64) == 1) (get_or-set_same words (number / 64) (bit_or (get_or words (number / 64) 0) (1 * 2 ^ (number % 64) % 2 ^ 64)) 0 l)
+    ap (λ w. bit_at w (number % 64) == 1) (get_or-set_same words (number / 64) (bit_or (get_or words (number / 64) 0)
+    (1 * 2 ^ (number % 64) % 2 ^ 64)) 0 l)
     ∙ ap (λ b. b == 1) (bit_at_set_same w64 (get_or words (number / 64) 0) (number % 64) (mod_below number 64 (omega arith)))
 
-pub flag_set_other : (words : List ℕ) (number k : ℕ) → number / 64 < length words → k ≢ number → flag_at (with_bit words number) k ≡ flag_at words k
+pub flag_set_other : (words : List ℕ) (number k : ℕ) → number / 64 < length words → k ≢ number →
+    flag_at (with_bit words number) k ≡ flag_at words k
 unfolding flag_at
 flag_set_other words number k l ne = go (cases_eq (k / 64) (number / 64))
   where
@@ -29,17 +31,22 @@ flag_set_other words number k l ne = go (cases_eq (k / 64) (number / 64))
     go (inl e) =
         let apart : k % 64 ≢ number % 64 = λ f. ne (omega (arith, e, f, div-add-mod' k 64, div-add-mod' number 64)) in
         ap (λ p. bit_at (get_or (with_bit words number) p 0) (k % 64) == 1) e
-        ∙ ap (λ w. bit_at w (k % 64) == 1) (get_or-set_same words (number / 64) (bit_or (get_or words (number / 64) 0) (1 * 2 ^ (number % 64) % 2 ^ 64)) 0 l)
-        ∙ ap (λ b. b == 1) (bit_at_set_other w64 (get_or words (number / 64) 0) (number % 64) (mod_below number 64 (omega arith)) (k % 64) apart)
+        ∙ ap (λ w. bit_at w (k % 64) == 1) (get_or-set_same words (number / 64) (bit_or (get_or words (number / 64) 0)
+        (1 * 2 ^ (number % 64) % 2 ^ 64)) 0 l)
+        ∙ ap (λ b. b == 1) (bit_at_set_other w64 (get_or words (number / 64) 0) (number % 64) (mod_below number 64 (omega arith))
+        (k % 64) apart)
         ∙ sym (ap (λ p. bit_at (get_or words p 0) (k % 64) == 1) e)
-    go (inr f) = ap (λ w. bit_at w (k % 64) == 1) (get_or-set_other words (number / 64) (k / 64) (bit_or (get_or words (number / 64) 0) (1 * 2 ^ (number % 64) % 2 ^ 64)) 0 f)
+    go (inr f) = ap (λ w. bit_at w (k % 64) == 1) (get_or-set_other words (number / 64) (k / 64) (bit_or (get_or words (number / 64) 0)
+        (1 * 2 ^ (number % 64) % 2 ^ 64)) 0 f)
 
 -- past the words no bit is set
 pub get_or_zeros : (words : List ℕ) (n p : ℕ) → get_or (words ++ replicate n 0) p 0 ≡ get_or words p 0
 get_or_zeros words n p = go (cases_lt p (length words))
   where
     behind : length words ≤ p → get_or (replicate n 0) (p - length words) 0 ≡ zero
-    behind l = let z : ℕ = 0 in ⊎_elim (λ h. get_or-replicate n (p - length words) 0 0 h) (λ h. get_or_past (replicate n 0) (p - length words) 0 (subst (λ k. k ≤ p - length words) (sym (length-replicate n 0)) h)) (cases_lt (p - length words) n)
+    behind l = let z : ℕ =
+        0 in ⊎_elim (λ h. get_or-replicate n (p - length words) 0 0 h) (λ h. get_or_past (replicate n 0) (p - length words) 0
+        (subst (λ k. k ≤ p - length words) (sym (length-replicate n 0)) h)) (cases_lt (p - length words) n)
 
     go : (p < length words) ⊎ (length words ≤ p) → get_or (words ++ replicate n 0) p 0 ≡ get_or words p 0
     go (inl l) = get_or_append_left words (replicate n 0) 0 p l
@@ -58,7 +65,8 @@ pub flag_below : (words : List ℕ) (count k : ℕ) → k < count → get_or (fl
 flag_below words count k l = get_or-map-range_with_len (flag_at words) 0 count k k false l (omega arith)
 
 -- words whose bits below a count are the same have the same flags
-pub same_flags : (words others : List ℕ) (count : ℕ) → ((k : ℕ) → k < count → flag_at words k ≡ flag_at others k) → flags_of words count ≡ flags_of others count
+pub same_flags : (words others : List ℕ) (count : ℕ) → ((k : ℕ) → k < count → flag_at words k ≡ flag_at others k) →
+    flags_of words count ≡ flags_of others count
 same_flags words others zero h = refl
 same_flags words others (suc count) h =
     let e : count + 1 ≡ suc count = omega arith in
@@ -81,21 +89,28 @@ one_more zero = refl
 one_more (suc n) = ap (λ xs. false ∷ xs) (one_more n)
 
 -- a flag that is set
-pub flags_set : (words : List ℕ) (count number : ℕ) → number < count → number / 64 < length words → flags_of (with_bit words number) count ≡ set (flags_of words count) number true
+pub flags_set : (words : List ℕ) (count number : ℕ) → number < count → number / 64 < length words →
+    flags_of (with_bit words number) count ≡ set (flags_of words count) number true
 flags_set words count number l within =
     let size : length (flags_of words count) ≡ count = length-map-range_with_len (flag_at words) 0 count in
-    let sized : length (flags_of (with_bit words number) count) ≡ count = length-map-range_with_len (flag_at (with_bit words number)) 0 count in
+    let sized : length (flags_of (with_bit words number) count) ≡ count =
+    length-map-range_with_len (flag_at (with_bit words number)) 0 count in
     same_from_flags (flags_of (with_bit words number) count) (set (flags_of words count) number true)
     (sized ∙ sym size ∙ sym (length-set (flags_of words count) number true))
     (λ k h. let here : k < count = omega (arith, h, sized) in
     flag_below (with_bit words number) count k here ∙ ⊎_elim
-    (λ e. ap (flag_at (with_bit words number)) e ∙ flag_set_same words number within ∙ sym (ap (λ p. get_or (set (flags_of words count) number true) p false) e ∙ get_or-set_same (flags_of words count) number true false (omega (arith, l, size))))
-    (λ f. flag_set_other words number k within f ∙ sym (get_or-set_other (flags_of words count) number k true false f ∙ flag_below words count k here))
+    (λ e. ap (flag_at (with_bit words number)) e ∙ flag_set_same words number within
+    ∙ sym (ap (λ p. get_or (set (flags_of words count) number true) p false) e
+    ∙ get_or-set_same (flags_of words count) number true false (omega (arith, l, size))))
+    (λ f. flag_set_other words number k within f ∙ sym (get_or-set_other (flags_of words count) number k true false f
+    ∙ flag_below words count k here))
     (cases_eq k number))
 
 -- flags behind a count that are all clear
-pub flags_clear : (words : List ℕ) (count more : ℕ) → ((k : ℕ) → count ≤ k → flag_at words k ≡ false) → flags_of words (count + more) ≡ flags_of words count ++ replicate more false
-flags_clear words count zero h = let e : count + zero ≡ count = omega arith in ap (flags_of words) e ∙ sym (append-nil (flags_of words count))
+pub flags_clear : (words : List ℕ) (count more : ℕ) → ((k : ℕ) → count ≤ k → flag_at words k ≡ false) →
+    flags_of words (count + more) ≡ flags_of words count ++ replicate more false
+flags_clear words count zero h = let e : count + zero ≡ count =
+    omega arith in ap (flags_of words) e ∙ sym (append-nil (flags_of words count))
 flags_clear words count (suc more) h =
     let e : count + suc more ≡ count + more + 1 = omega arith in
     ap (flags_of words) e
@@ -107,21 +122,26 @@ flags_clear words count (suc more) h =
 
 -- ---- the words of pairs
 pub word_within : (words : List ℕ) (moves i j : ℕ) → AreWords words moves → i < j → j < moves → pair_number i j / 64 < length words
-word_within words moves i j h l k = div_below (pair_number i j) 64 (length words) (omega arith) (omega (arith, h.room, number_below i j moves l k))
+word_within words moves i j h l k =
+    div_below (pair_number i j) 64 (length words) (omega arith) (omega (arith, h.room, number_below i j moves l k))
 
 -- what the code reads, and what it writes
-pub flag_read : (words : List ℕ) (moves i j word : ℕ) → AreWords words moves → i < j → j < moves → word ≡ get_or words (pair_number i j / 64) word →
+pub flag_read : (words : List ℕ) (moves i j word : ℕ) → AreWords words moves → i < j → j < moves →
+    word ≡ get_or words (pair_number i j / 64) word →
     (bit_and (word / 2 ^ (pair_number i j % 64)) 1 == 1) ≡ get_or (flags_of words (pairs_of moves)) (pair_number i j) false
 unfolding flag_at
 flag_read words moves i j word h l k e =
     ap (λ b. b == 1) (shr_and_one word (pair_number i j % 64))
-    ∙ ap (λ w. bit_at w (pair_number i j % 64) == 1) (e ∙ get_or_default words (pair_number i j / 64) word 0 (word_within words moves i j h l k))
+    ∙ ap (λ w. bit_at w (pair_number i j % 64) == 1) (e
+    ∙ get_or_default words (pair_number i j / 64) word 0 (word_within words moves i j h l k))
     ∙ sym (flag_below words (pairs_of moves) (pair_number i j) (number_below i j moves l k))
 
-pub words_written : (words : List ℕ) (moves i j word : ℕ) → AreWords words moves → i < j → j < moves → word ≡ get_or words (pair_number i j / 64) word →
+pub words_written : (words : List ℕ) (moves i j word : ℕ) → AreWords words moves → i < j → j < moves →
+    word ≡ get_or words (pair_number i j / 64) word →
     set words (pair_number i j / 64) (bit_or word (1 * 2 ^ (pair_number i j % 64) % 2 ^ 64)) ≡ with_bit words (pair_number i j)
 words_written words moves i j word h l k e =
-    ap (λ w. set words (pair_number i j / 64) (bit_or w (1 * 2 ^ (pair_number i j % 64) % 2 ^ 64))) (e ∙ get_or_default words (pair_number i j / 64) word 0 (word_within words moves i j h l k))
+    ap (λ w. set words (pair_number i j / 64) (bit_or w (1 * 2 ^ (pair_number i j % 64) % 2 ^ 64))) (e
+    ∙ get_or_default words (pair_number i j / 64) word 0 (word_within words moves i j h l k))
 
 pub marked : (words : List ℕ) (moves i j : ℕ) → AreWords words moves → i < j → j < moves → AreWords (with_bit words (pair_number i j)) moves
 marked words moves i j h l k =
@@ -130,49 +150,58 @@ marked words moves i j h l k =
     record {
       few = h.few;
       room = subst (λ n. pairs_of moves ≤ n * 64) (sym (length-set words (number / 64) word)) h.room;
-      clear = λ p q. flag_set_other words number p (word_within words moves i j h l k) (λ e. omega (arith, e, number_below i j moves l k, q)) ∙ h.clear p q;
+      clear = λ p q. flag_set_other words number p (word_within words moves i j h l k)
+          (λ e. omega (arith, e, number_below i j moves l k, q)) ∙ h.clear p q;
     }
 
-pub grown : (words others : List ℕ) (moves n : ℕ) → AreWords words moves → moves < 65536 → others ≡ words ++ replicate n 0 → pairs_of (moves + 1) ≤ length others * 64 → AreWords others (moves + 1)
+pub grown : (words others : List ℕ) (moves n : ℕ) → AreWords words moves → moves < 65536 → others ≡ words ++ replicate n 0 →
+    pairs_of (moves + 1) ≤ length others * 64 → AreWords others (moves + 1)
 grown words others moves n h l e room = record {
   few = omega (arith, l);
   room = room;
   clear = λ p q. ap (λ ws. flag_at ws p) e ∙ flag_zeros words n p ∙ h.clear p (omega (arith, q, pairs_of_more moves));
 }
 
-pub flags_grown : (words others : List ℕ) (moves n : ℕ) → AreWords words moves → others ≡ words ++ replicate n 0 → flags_of others (pairs_of (moves + 1)) ≡ flags_of words (pairs_of moves) ++ replicate moves false
+pub flags_grown : (words others : List ℕ) (moves n : ℕ) → AreWords words moves → others ≡ words ++ replicate n 0 →
+    flags_of others (pairs_of (moves + 1)) ≡ flags_of words (pairs_of moves) ++ replicate moves false
 flags_grown words others moves n h e =
     ap (flags_of others) (pairs_of_more moves)
     ∙ same_flags others words (pairs_of moves + moves) (λ k l. ap (λ ws. flag_at ws k) e ∙ flag_zeros words n k)
     ∙ flags_clear words (pairs_of moves) moves h.clear
 
 -- zeros behind the words until there are so many
-pub filled_room : (words others : List ℕ) (pairs : ℕ) → others ≡ words ++ replicate ((pairs + 63) / 64 - length words) 0 → pairs ≤ length others * 64
+pub filled_room : (words others : List ℕ) (pairs : ℕ) → others ≡ words ++ replicate ((pairs + 63) / 64 - length words) 0 →
+    pairs ≤ length others * 64
 filled_room words others pairs e =
     let n : ℕ = (pairs + 63) / 64 - length words in
-    let size : length others ≡ length words + n = ap length e ∙ length-append words (replicate n 0) ∙ ap (λ k. length words + k) (length-replicate n 0) in
+    let size : length others ≡ length words + n =
+    ap length e ∙ length-append words (replicate n 0) ∙ ap (λ k. length words + k) (length-replicate n 0) in
     omega (arith, size, div-add-mod' (pairs + 63) 64, mod_below (pairs + 63) 64 (omega arith))
 
 -- ---- words of zeros alone
 zeros_alone : (old words : List ℕ) (n k : ℕ) → old ≡ [] → words ≡ old ++ replicate n 0 → flag_at words k ≡ false
 zeros_alone old words n k none e = ap (λ ws. flag_at ws k) e ∙ flag_zeros old n k ∙ ap (λ ws. flag_at ws k) none ∙ flag_without_words k
 
-pub fresh : (old words : List ℕ) (moves : ℕ) → moves ≤ 65536 → old ≡ [] → words ≡ old ++ replicate ((pairs_of moves + 63) / 64 - length old) 0 → AreWords words moves
+pub fresh : (old words : List ℕ) (moves : ℕ) → moves ≤ 65536 → old ≡ [] →
+    words ≡ old ++ replicate ((pairs_of moves + 63) / 64 - length old) 0 → AreWords words moves
 fresh old words moves l none e = record {
   few = l;
   room = filled_room old words (pairs_of moves) e;
   clear = λ k _. zeros_alone old words ((pairs_of moves + 63) / 64 - length old) k none e;
 }
 
-pub flags_fresh : (old words : List ℕ) (n count : ℕ) → old ≡ [] → words ≡ old ++ replicate n 0 → flags_of words count ≡ replicate count false
+pub flags_fresh : (old words : List ℕ) (n count : ℕ) → old ≡ [] → words ≡ old ++ replicate n 0 →
+    flags_of words count ≡ replicate count false
 flags_fresh old words n count none e =
     let z : 0 + count ≡ count = omega arith in
     ap (flags_of words) (sym z) ∙ flags_clear words 0 count (λ k _. zeros_alone old words n k none e)
 
 -- ---- one move fewer, of whose pairs none is settled
-module _ (words : List ℕ) (moves : ℕ) (h : AreWords words moves) (some : 0 < moves) (clear : (k : ℕ) → pairs_of (moves - 1) ≤ k → get_or (flags_of words (pairs_of moves)) k false ≡ false) where
+module _ (words : List ℕ) (moves : ℕ) (h : AreWords words moves) (some : 0 < moves) (clear : (k : ℕ) → pairs_of (moves - 1) ≤ k →
+    get_or (flags_of words (pairs_of moves)) k false ≡ false) where
   shrunk_clear : (k : ℕ) → pairs_of (moves - 1) ≤ k → flag_at words k ≡ false
-  shrunk_clear k l = ⊎_elim (λ below. sym (flag_below words (pairs_of moves) k below) ∙ clear k l) (λ past. h.clear k past) (cases_lt k (pairs_of moves))
+  shrunk_clear k l = ⊎_elim (λ below. sym (flag_below words (pairs_of moves) k below) ∙ clear k l) (λ past. h.clear k past)
+      (cases_lt k (pairs_of moves))
 
   last_pairs : pairs_of moves ≡ pairs_of (moves - 1) + (moves - 1)
   last_pairs = let e : moves ≡ moves - 1 + 1 = omega arith in ap pairs_of e ∙ pairs_of_more (moves - 1)
@@ -185,4 +214,5 @@ module _ (words : List ℕ) (moves : ℕ) (h : AreWords words moves) (some : 0 <
       let count : ℕ = pairs_of (moves - 1) in
       let size : length (flags_of words count) ≡ count = length-map-range_with_len (flag_at words) 0 count in
       sym (ap (λ n. take count (flags_of words n)) last_pairs ∙ ap (take count) (flags_clear words count (moves - 1) shrunk_clear)
-      ∙ ap (λ n. take n (flags_of words count ++ replicate (moves - 1) false)) (sym size) ∙ take-append_seam (flags_of words count) (replicate (moves - 1) false))
+      ∙ ap (λ n. take n (flags_of words count ++ replicate (moves - 1) false)) (sym size)
+      ∙ take-append_seam (flags_of words count) (replicate (moves - 1) false))

@@ -1,7 +1,7 @@
 -- The fields of a ledger as the core state, and what they keep.
 use Rattle.std.specs.Prelude.{◌≡◌, length}
 use Rattle.mk_move.specs.MoveLists.{vectors_of}
-use Rattle.mk_ledger.specs.Entries.{settles_of}
+use Rattle.mk_journal.specs.Entries.{settles_of}
 use Rattle.mk_ledger.specs.Ledgers.{LedgerView, IsLedger, AreFlagged, AreInOrder}
 use Rattle.mk_ledger.specs.declared.ledger.Ledger.TheInside.{Inside}
 

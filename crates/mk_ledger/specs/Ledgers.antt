@@ -31,7 +31,8 @@ pub record AreFlagged (state : CoreState) (flags : List Bool) : Type 0 where
 -- no claim was given up, and each pair that was claimed is settled or still claimed
 pub record AreAllTaken (state : CoreState) : Type 0 where
   pub none_given_up : state.claims_given_up ≡ 0
-  pub taken : (pair : Pair) → IsPairOf state.basis pair → number_of pair < state.claims_made → IsSettled state.journal pair ⊎ IsClaimed state pair
+  pub taken : (pair : Pair) → IsPairOf state.basis pair → number_of pair < state.claims_made → IsSettled state.journal pair ⊎
+      IsClaimed state pair
 
 -- a claim was given up by a halt, and a pair is left free
 pub record IsOneLeft (state : CoreState) : Type 0 where

@@ -1,6 +1,4 @@
 pub mod PairFlags
-pub mod Entries
-pub mod JournalRuns
 pub mod Halts
 pub mod Ledgers
 pub mod Claims

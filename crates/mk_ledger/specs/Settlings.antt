@@ -67,7 +67,8 @@ OfClaim state worker holds = (pair : Pair) × (claim_of state worker ≡ Some pa
 -- The answer, and the ledger afterwards: the claim is settled where both pairs are settled, and there is memory.
 abbrev pub AnswersChain : LedgerView → ℕ → ℕ → Result Unit ChainFault → LedgerView → Type 0
 AnswersChain ledger worker third (Ok done) after =
-    IsSettling (length ledger.basis.grading) ledger.basis.priority ledger.state worker (Chain third) after.state × (after.basis ≡ ledger.basis)
+    IsSettling (length ledger.basis.grading) ledger.basis.priority ledger.state worker (Chain third) after.state ×
+    (after.basis ≡ ledger.basis)
 AnswersChain ledger worker third (Err chain.Memory) after =
     OfClaim ledger.state worker (λ pair. AreBothSettled ledger.state.journal pair third) × (after ≡ ledger)
 AnswersChain ledger worker third (Err (chain.Unsettled i j)) after =
@@ -122,7 +123,8 @@ IsPlacing ledger worker front m (Err (fault.Memory given)) after =
 IsPlacing ledger worker front m (Err (fault.Behind count given)) after =
     (front < length ledger.basis.moves) × (count ≡ length ledger.basis.moves) × (given ≡ m) × (after ≡ ledger)
 IsPlacing ledger worker front m (Err fault.BasisFull) after =
-    (front ≡ length ledger.basis.moves) × (length ledger.basis.moves ≡ ledger.state.limit) × HaltsFull ledger.state worker after.state × (after.basis ≡ ledger.basis)
+    (front ≡ length ledger.basis.moves) × (length ledger.basis.moves ≡ ledger.state.limit) × HaltsFull ledger.state worker after.state ×
+    (after.basis ≡ ledger.basis)
 
 -- ---- the parts of a ledger where a move is placed
 -- places and a worker's number as small as an entry of a journal keeps them
@@ -138,6 +140,7 @@ pub record AreFlagsOf (moves : List Weighed) (settled : PairFlags) : Type 0 wher
   pub each : length settled.flags ≡ pairs_of settled.moves
 
 -- the move is at the end, and the flags of its pairs, which are clear, behind the others
-pub record IsGrown (basis : BasisView) (settled : PairFlags) (m : Weighed) (basis_after : BasisView) (settled_after : PairFlags) : Type 0 where
+pub record IsGrown (basis : BasisView) (settled : PairFlags) (m : Weighed) (basis_after : BasisView)
+    (settled_after : PairFlags) : Type 0 where
   pub moves : basis_after ≡ with_placed basis m
   pub flags : settled_after ≡ record { moves = settled.moves + 1; flags = settled.flags ++ replicate settled.moves false }

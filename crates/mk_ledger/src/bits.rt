@@ -18,7 +18,8 @@ impl Model for SettledBits {
 
     ghost Value = { PairFlags };
 
-    ghost view = { λ b. record { moves = b.moves; flags = flags_of b.words.items (pairs_of b.moves) } };
+    ghost view = { λ b.
+        record { moves = b.moves; flags = flags_of b.words.items (pairs_of b.moves) } };
 
     ghost invariant = { λ b. AreWords b.words.items b.moves };
 }
@@ -37,7 +38,8 @@ impl SettledBits {
     /// So many moves, at most 65,536, none of whose pairs is settled.
     pub fn of_moves(alloc: Global, moves: u32) -> Result<SettledBits, NoMemory>
         requires { moves ≤ 65536 }
-        ensures { IfOk result (λ bits. bits ≡ record { moves = moves; flags = replicate (pairs_of moves) false }) }
+        ensures { IfOk result (λ bits. bits
+            ≡ record { moves = moves; flags = replicate (pairs_of moves) false }) }
     {
         let needed = ((pairs_of(moves) + 63) / 64) as usize;
         let mut words = Vec::new(alloc);
@@ -68,7 +70,8 @@ impl SettledBits {
     pub fn mark(&mut self, i: u32, j: u32)
         requires ordered { i < j }
         requires within { j < self.old.moves }
-        ensures { self.new ≡ record self.old { flags = slice_set self.old.flags (pair_number i j) true } }
+        ensures { self.new
+            ≡ record self.old { flags = slice_set self.old.flags (pair_number i j) true } }
     {
         let number = pair_number(i, j);
         let place = (number / 64) as usize;
@@ -78,7 +81,10 @@ impl SettledBits {
     /// One move more, whose pairs with the others aren't settled. After a refusal all is as before.
     pub fn grow(&mut self) -> Result<(), NoMemory>
         requires { self.old.moves < 65536 }
-        ensures ok { OnOk result (self.new ≡ record { moves = self.old.moves + 1; flags = self.old.flags ++ replicate self.old.moves false }) }
+        ensures ok { OnOk result (self.new ≡ record {
+          moves = self.old.moves + 1;
+          flags = self.old.flags ++ replicate self.old.moves false;
+        }) }
         ensures err { OnErr result (self.new ≡ self.old) }
     {
         let needed = ((pairs_of(self.moves + 1) + 63) / 64) as usize;
@@ -90,8 +96,12 @@ impl SettledBits {
     /// One move fewer: the last, of whose pairs none is settled.
     pub fn shrink(&mut self)
         requires some { 0 < self.old.moves }
-        requires clear { (number : ℕ) → pairs_of (self.old.moves - 1) ≤ number → slice_index_or self.old.flags number false ≡ false }
-        ensures { self.new ≡ record { moves = self.old.moves - 1; flags = take (pairs_of (self.old.moves - 1)) self.old.flags } }
+        requires clear { (number : ℕ) → pairs_of (self.old.moves - 1) ≤ number →
+            slice_index_or self.old.flags number false ≡ false }
+        ensures { self.new ≡ record {
+          moves = self.old.moves - 1;
+          flags = take (pairs_of (self.old.moves - 1)) self.old.flags;
+        } }
     {
         self.moves -= 1;
     }
@@ -99,7 +109,8 @@ impl SettledBits {
 
 /// Puts words of zeros at the end until there are so many. After a refusal they are as before.
 fn fit(words: &mut Vec<u64>, needed: usize) -> Result<(), NoMemory>
-    ensures ok { OnOk result (words.new.items ≡ words.old.items ++ replicate (needed - length words.old.items) 0) }
+    ensures ok { OnOk result (words.new.items
+        ≡ words.old.items ++ replicate (needed - length words.old.items) 0) }
     ensures err { OnErr result (words.new.items ≡ words.old.items) }
 {
     if words.len() < needed {

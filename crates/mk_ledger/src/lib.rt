@@ -5,13 +5,12 @@
 mod bits;
 mod claims;
 mod halt;
-mod journal;
 mod ledger;
 mod pairs;
 
 pub use bits::SettledBits;
 pub use claims::Claim;
 pub use halt::{Halt, OverflowStop};
-pub use journal::{Journal, JournalEntry, Kind};
 pub use ledger::{ChainFault, Ledger, LedgerParts, PlaceFault};
+pub use mk_journal::{Journal, JournalEntry, Kind};
 pub use pairs::{Frontier, pair_number};

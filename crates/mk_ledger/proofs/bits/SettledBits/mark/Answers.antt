@@ -14,7 +14,8 @@ pub invariant_of-self : goal.invariant_of-self
 invariant_of-self c =
     let within : c.args.j < c.self.inside.moves = omega (arith, c.requires.within, ap (λ (p : PairFlags). p.moves) c.self.view_is) in
     let read = rw c.pair_number-number.ensures at c.index_mut.ensures.value in
-    let written = words_written c.self.inside.words.items c.self.inside.moves c.args.i c.args.j c.index_mut.result.now c.self.invariant c.requires.ordered within read in
+    let written = words_written c.self.inside.words.items c.self.inside.moves c.args.i c.args.j c.index_mut.result.now c.self.invariant
+    c.requires.ordered within read in
     rw c.pair_number-number.ensures
     (subst (λ ws. AreWords ws c.self.inside.moves) (sym written)
     (marked c.self.inside.words.items c.self.inside.moves c.args.i c.args.j c.self.invariant c.requires.ordered within))
@@ -27,7 +28,8 @@ returns c =
     let within : c.args.j < moves = omega (arith, c.requires.within, ap (λ (p : PairFlags). p.moves) c.self.view_is) in
     let read = rw c.pair_number-number.ensures at c.index_mut.ensures.value in
     let written = words_written words moves c.args.i c.args.j c.index_mut.result.now c.self.invariant c.requires.ordered within read in
-    let flags = flags_set words (pairs_of moves) number (number_below c.args.i c.args.j moves c.requires.ordered within) (word_within words moves c.args.i c.args.j c.self.invariant c.requires.ordered within) in
+    let flags = flags_set words (pairs_of moves) number (number_below c.args.i c.args.j moves c.requires.ordered within)
+    (word_within words moves c.args.i c.args.j c.self.invariant c.requires.ordered within) in
     rw c.pair_number-number.ensures
     (ap (λ ws. record { moves = moves; flags = flags_of ws (pairs_of moves) }) written
     ∙ ap (λ fs. record { moves = moves; flags = fs }) flags

@@ -12,5 +12,6 @@ pub returns : goal.returns
 returns c =
     let old = c.new-words.result.items in
     let filled = rw c.pairs_of.ensures.value at c.in_ok-fit.ensures.ok in
-    let flags = flags_fresh old c.fit.new.words.items ((pairs_of c.args.moves + 63) / 64 - length old) (pairs_of c.args.moves) c.new-words.ensures.items filled in
+    let flags = flags_fresh old c.fit.new.words.items ((pairs_of c.args.moves + 63) / 64 - length old)
+    (pairs_of c.args.moves) c.new-words.ensures.items filled in
     ap (λ fs. record { moves = c.args.moves; flags = fs }) flags

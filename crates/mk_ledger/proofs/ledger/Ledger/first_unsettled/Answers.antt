@@ -9,5 +9,6 @@ returns-then-not-is_settled-2 c =
     let journal = c.args.self.now.state.journal in
     let first : AreSettled journal c.args.held.first c.args.k = search rules in
     let second : ¬ (AreSettled journal c.args.held.second c.args.k) = search rules in
-    let pair : pair_of c.min-then-not-is_settled-2.result c.max-then-not-is_settled-2.result ≡ pair_between c.args.held.second c.args.k = search rules in
+    let pair : pair_of c.min-then-not-is_settled-2.result c.max-then-not-is_settled-2.result ≡ pair_between c.args.held.second c.args.k =
+    search rules in
     inr (pair, first, second)

@@ -9,13 +9,17 @@ pub returns : goal.returns
 returns c =
     let fields = c.self.inside in
     let held = c.unwrap.result in
-    let some : IsSome (claim_of (ledger_of fields).state c.args.worker) = subst (λ l. IsSome (claim_of l.state c.args.worker)) (sym c.self.view_is) c.requires in
-    let claimed : claim_of (ledger_of fields).state c.args.worker ≡ Some held = claim_read (ledger_of fields).state c.args.worker c.index.result.now held some c.index.ensures c.unwrap.ensures in
+    let some : IsSome (claim_of (ledger_of fields).state c.args.worker) =
+    subst (λ l. IsSome (claim_of l.state c.args.worker)) (sym c.self.view_is) c.requires in
+    let claimed : claim_of (ledger_of fields).state c.args.worker ≡ Some held =
+    claim_read (ledger_of fields).state c.args.worker c.index.result.now held some c.index.ensures c.unwrap.ensures in
     record {
       value = subst (λ l. claim_of l.state c.args.worker ≡ Some held) c.self.view_is claimed;
       pair = subst (λ l. IsPairOf l.state.basis held) c.self.view_is (claim_of_basis fields c.self.invariant c.args.worker held claimed);
-      worker = subst (λ l. c.args.worker < l.state.workers) c.self.view_is (claim_worker fields c.self.invariant c.args.worker held claimed);
-      no_halt = subst (λ l. halt_of l.state c.args.worker ≡ None) c.self.view_is (claim_no_halt fields c.self.invariant c.args.worker held claimed);
+      worker = subst (λ l. c.args.worker < l.state.workers) c.self.view_is
+          (claim_worker fields c.self.invariant c.args.worker held claimed);
+      no_halt = subst (λ l. halt_of l.state c.args.worker ≡ None) c.self.view_is
+          (claim_no_halt fields c.self.invariant c.args.worker held claimed);
       small = claim_small fields c.self.invariant c.args.worker held claimed;
       kept = subst IsLedger c.self.view_is c.self.invariant.ledger;
     }

@@ -15,16 +15,21 @@ pub returns-then-is_within : goal.returns-then-is_within
 returns-then-is_within c =
     let state = (ledger_of c.self.inside).state in
     let within : c.self.inside.next < pairs_of c.len.result = search rules in
-    let sizes : length state.basis ≡ c.len.result = length-map c.self.inside.basis.moves (λ (m : Weighed). m.entries) ∙ sym c.len.ensures.value in
-    let left : state.claims_made < pairs_of (length state.basis) = omega (arith, within, ap pairs_of sizes) in
-    (λ e. absurd (false≢true e), λ end. absurd (not_ended c.self.invariant.in_order left (subst (λ (l : LedgerView). IsEnded l.state) (sym c.self.view_is) end)))
+    let sizes : length state.basis ≡ c.len.result = length-map c.self.inside.basis.moves (λ (m : Weighed). m.entries)
+    ∙ sym c.len.ensures.value in
+    let left : state.claims_made < pairs_of (length state.basis) = omega (arith, within, ap pairs_of sizes) in (
+      λ e. absurd (false≢true e),
+      λ end. absurd (not_ended c.self.invariant.in_order left (subst (λ (l : LedgerView). IsEnded l.state)
+          (sym c.self.view_is) end)),
+    )
 
 pub returns : goal.returns
 returns c =
     let state = (ledger_of c.self.inside).state in
     let behind : pairs_of c.len.result ≤ c.self.inside.next =
     ⊎_elim (λ l. absurd (false≢true (c.if-is_within.ensures.1 l))) (λ l. l) (cases_lt c.self.inside.next (pairs_of c.len.result)) in
-    let sizes : length state.basis ≡ c.len.result = length-map c.self.inside.basis.moves (λ (m : Weighed). m.entries) ∙ sym c.len.ensures.value in
+    let sizes : length state.basis ≡ c.len.result = length-map c.self.inside.basis.moves (λ (m : Weighed). m.entries)
+    ∙ sym c.len.ensures.value in
     let all : pairs_of (length state.basis) ≤ state.claims_made = omega (arith, behind, ap pairs_of sizes) in
     let none : state.claims_given_up ≡ 0 = omega (arith, c.if-self-gt0.false) in
     let tells : IsTrue c.none_held.result ↔ NoneHeld state.claims (length state.claims) =

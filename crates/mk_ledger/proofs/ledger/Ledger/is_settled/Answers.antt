@@ -19,10 +19,18 @@ returns-then-low-high c =
     elim c.then-low-high.branch [
       | then-low-high-via-then-low-high w ↦ inl (sym low ∙ w.if-low-high.true ∙ high)
       | then-low-high-via-else-low-high+then-high-len w ↦
-          inr (omega (arith, w.if-high-len.true, high, w.len.ensures.value, length-map c.self.inside.basis.moves (λ (m : Weighed). m.entries)))
+          inr (omega (
+            arith,
+            w.if-high-len.true,
+            high,
+            w.len.ensures.value,
+            length-map c.self.inside.basis.moves
+                (λ (m : Weighed). m.entries),
+          ))
     ] in (
       (λ e. absurd (false≢true e)),
-      (λ s. absurd (none_beyond c.self.invariant.ledger.legal c.args.i c.args.j beyond (subst (λ (l : LedgerView). AreSettled l.state.journal c.args.i c.args.j) (sym c.self.view_is) s))),
+      (λ s. absurd (none_beyond c.self.invariant.ledger.legal c.args.i c.args.j beyond
+          (subst (λ (l : LedgerView). AreSettled l.state.journal c.args.i c.args.j) (sym c.self.view_is) s))),
     )
 
 pub returns : goal.returns
@@ -32,7 +40,9 @@ returns c =
     let high : c.max-high.result ≡ max c.args.i c.args.j = search rules in
     let within : max c.args.i c.args.j < length state.basis =
     omega (arith, c.if-high-len.false, high, c.len.ensures.value, length-map c.self.inside.basis.moves (λ (m : Weighed). m.entries)) in
-    let tells = either_tells c.self.invariant.ledger.legal c.self.invariant.flagged c.args.i c.args.j (λ e. c.if-low-high.false (low ∙ e ∙ sym high)) within in
+    let tells = either_tells c.self.invariant.ledger.legal c.self.invariant.flagged c.args.i c.args.j (λ e. c.if-low-high.false (low ∙ e
+    ∙ sym high)) within in
     let number = ap (λ k. pair_number k c.max-high.result) low ∙ ap (pair_number (min c.args.i c.args.j)) high in
     subst (λ (l : LedgerView). IsTrue c.is_settled.result ↔ AreSettled l.state.journal c.args.i c.args.j) c.self.view_is
-    (subst (λ b. IsTrue b ↔ AreSettled state.journal c.args.i c.args.j) (sym (c.is_settled.ensures ∙ ap (λ n. get_or c.self.inside.settled.flags n false) number)) tells)
+    (subst (λ b. IsTrue b ↔ AreSettled state.journal c.args.i c.args.j) (sym (c.is_settled.ensures
+    ∙ ap (λ n. get_or c.self.inside.settled.flags n false) number)) tells)

@@ -14,10 +14,12 @@ returns-in-Some c =
     let same = c.deref.ensures.value ∙ ap (λ (l : LedgerView). l.state.claims) c.self.view_is in
     let here : pair_of c.held.inside.i c.held.inside.j ≡ c.in-Some.held = cc in
     let least : IsLeastHeld now.state.claims (length now.state.claims) c.in-Some.worker (pair_of c.held.inside.i c.held.inside.j) =
-    subst (λ (p : Pair). IsLeastHeld now.state.claims (length now.state.claims) c.in-Some.worker p) (sym here) (subst (λ claims. IsLeastHeld claims (length claims) c.in-Some.worker c.in-Some.held) same c.in-Some.ensures) in
+    subst (λ (p : Pair). IsLeastHeld now.state.claims (length now.state.claims) c.in-Some.worker p) (sym here)
+    (subst (λ claims. IsLeastHeld claims (length claims) c.in-Some.worker c.in-Some.held) same c.in-Some.ensures) in
     λ worker. (
       c.requires.no_halt,
-      not_yet order kept.legal (all_taken order c.requires.no_halt) c.requires.all c.in-Some.worker (pair_of c.held.inside.i c.held.inside.j) least.held
+      not_yet order kept.legal (all_taken order c.requires.no_halt) c.requires.all c.in-Some.worker
+          (pair_of c.held.inside.i c.held.inside.j) least.held
           (least_of_all now.state.claims c.in-Some.worker (pair_of c.held.inside.i c.held.inside.j) least),
       refl,
     )
@@ -27,5 +29,11 @@ returns-in-None c =
     let now = c.args.self.now in
     let order : AreInOrder now.state = subst (λ (l : LedgerView). AreInOrder l.state) c.self.view_is c.self.invariant.in_order in
     let same = c.deref.ensures.value ∙ ap (λ (l : LedgerView). l.state.claims) c.self.view_is in
-    let none : NoneHeld now.state.claims (length now.state.claims) = subst (λ claims. NoneHeld claims (length claims)) same c.in-None.ensures in
-    λ worker. (c.requires.no_halt, ended order (all_taken order c.requires.no_halt) c.requires.all (none_of_all now.state.claims none), refl)
+    let none : NoneHeld now.state.claims (length now.state.claims) =
+    subst (λ claims. NoneHeld claims (length claims)) same c.in-None.ensures in
+    λ worker. (
+      c.requires.no_halt,
+      ended order (all_taken order c.requires.no_halt) c.requires.all
+          (none_of_all now.state.claims none),
+      refl,
+    )

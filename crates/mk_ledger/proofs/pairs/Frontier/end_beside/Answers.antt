@@ -8,12 +8,27 @@ returns-then-j-self-clause-second c k l h =
 
 pub returns-then-j-self-2-clause-second : goal.returns-then-j-self-2-clause-second
 returns-then-j-self-2-clause-second c k l h =
-    omega (arith, c.self.view_is, number_of_less c.self.inside.i c.self.inside.j c.args.j k c.self.invariant.ordered (omega (arith, h, c.if-j-self.false)))
+    omega (
+      arith,
+      c.self.view_is,
+      number_of_less c.self.inside.i c.self.inside.j c.args.j k c.self.invariant.ordered
+          (omega (arith, h, c.if-j-self.false)),
+    )
 
 pub returns-else-j-self-2-clause-first : goal.returns-else-j-self-2-clause-first
 returns-else-j-self-2-clause-first c k l h =
-    omega (arith, c.self.view_is, number_of_less c.self.inside.i c.self.inside.j k c.args.j c.self.invariant.ordered (omega (arith, c.if-j-self.false, c.if-j-self-2.false)))
+    omega (
+      arith,
+      c.self.view_is,
+      number_of_less c.self.inside.i c.self.inside.j k c.args.j c.self.invariant.ordered
+          (omega (arith, c.if-j-self.false, c.if-j-self-2.false)),
+    )
 
 pub returns-else-j-self-2-clause-second : goal.returns-else-j-self-2-clause-second
 returns-else-j-self-2-clause-second c k l h =
-    omega (arith, c.self.view_is, number_of_less c.self.inside.i c.self.inside.j c.args.j k c.self.invariant.ordered (omega (arith, h, c.if-j-self.false)))
+    omega (
+      arith,
+      c.self.view_is,
+      number_of_less c.self.inside.i c.self.inside.j c.args.j k c.self.invariant.ordered
+          (omega (arith, h, c.if-j-self.false)),
+    )

@@ -10,6 +10,7 @@ returns c =
     let j = c.self.inside.j in (
       λ t. let l : j < c.args.moves = grind (arith, nat_tests) in
           subst (λ n. n < pairs_of c.args.moves) c.self.view_is (number_below i j c.args.moves c.self.invariant.ordered l),
-      λ h. let l : j < c.args.moves = within_by_number i j c.args.moves c.self.invariant.ordered (subst (λ n. n < pairs_of c.args.moves) (sym c.self.view_is) h) in
+      λ h. let l : j < c.args.moves =
+          within_by_number i j c.args.moves c.self.invariant.ordered (subst (λ n. n < pairs_of c.args.moves) (sym c.self.view_is) h) in
           grind (arith, nat_tests),
     )

@@ -2,9 +2,9 @@
 use Rattle.std.specs.Prelude.{◌≡◌, ℕ, List, map, All}
 use Rattle.mk_model.specs.CoreStates.{pair_of, Way, Settle, settle}
 use Rattle.mk_model.specs.CoreStates.Way.{Coprime, Chain, Zero, Place}
-use Rattle.mk_ledger.specs.declared.journal.JournalEntry.{JournalEntry}
-use Rattle.mk_ledger.specs.declared.journal.Kind.{Kind}
-use Rattle.mk_ledger.specs.declared.journal.Kind.TheVariants as kind
+use Rattle.mk_journal.specs.declared.journal.JournalEntry.{JournalEntry}
+use Rattle.mk_journal.specs.declared.journal.Kind.{Kind}
+use Rattle.mk_journal.specs.declared.journal.Kind.TheVariants as kind
 
 -- the way of a kind, with the third move or the new place
 abbrev pub way_of : Kind → ℕ → Way

@@ -1,11 +1,11 @@
 -- The entries of a journal, in runs: a run of pairs with disjoint leads is kept as its first entry and a number.
 use Rattle.std.specs.Prelude.{◌≡◌, ℕ, ◌+◌, ◌*◌, ◌<◌, ◌≤◌, List, length, map, take, get_or, All}
 use Rattle.std.specs.List.{flat_map, range_with_len}
-use Rattle.mk_ledger.specs.declared.journal.Kind.{Kind}
-use Rattle.mk_ledger.specs.declared.journal.Kind.TheVariants as kind
-use Rattle.mk_ledger.specs.declared.journal.JournalEntry.{JournalEntry}
-use Rattle.mk_ledger.specs.declared.journal.Run.{Run}
-use Rattle.mk_ledger.specs.Entries.{HaveTheirThirds}
+use Rattle.mk_journal.specs.declared.journal.Kind.{Kind}
+use Rattle.mk_journal.specs.declared.journal.Kind.TheVariants as kind
+use Rattle.mk_journal.specs.declared.journal.JournalEntry.{JournalEntry}
+use Rattle.mk_journal.specs.declared.journal.Run.{Run}
+use Rattle.mk_journal.specs.Entries.{HaveTheirThirds}
 
 -- how many entries follow the first, by the kind and the number of a run
 abbrev pub more_of : Kind → ℕ → ℕ

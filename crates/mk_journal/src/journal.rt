@@ -1,8 +1,8 @@
 ghost use Rattle.std.specs.Prelude.{◌≡◌, ℕ, ◌+◌, ◌-◌, ◌*◌, ◌<◌, ◌≤◌, ◌++◌, [], ◌∷◌, length, take, List, Some, OnOk, OnErr, IsTrue, false, slice_get, slice_index_or};
 ghost use Rattle.std.specs.List.{All};
-ghost use Rattle.mk_ledger.specs.Entries.{HasItsThird, HaveTheirThirds};
-ghost use Rattle.mk_ledger.specs.JournalRuns.{more_of, entry_in, entries_in, entries_of, IsRun, IsContinuedBy, AreStarts};
-ghost use Rattle.mk_ledger.specs.declared.journal.Run.{Run as RunView};
+ghost use Rattle.mk_journal.specs.Entries.{HasItsThird, HaveTheirThirds};
+ghost use Rattle.mk_journal.specs.JournalRuns.{more_of, entry_in, entries_in, entries_of, IsRun, IsContinuedBy, AreStarts};
+ghost use Rattle.mk_journal.specs.declared.journal.Run.{Run as RunView};
 
 use mk_model::NoMemory;
 use std::alloc::Global;
@@ -112,11 +112,11 @@ pub struct Journal {
 
 impl Model for Journal {
     ghost use Rattle.std.specs.Prelude.{List};
-    ghost use Rattle.mk_ledger.specs.declared.journal.JournalEntry.{JournalEntry};
+    ghost use Rattle.mk_journal.specs.declared.journal.JournalEntry.{JournalEntry};
 
     ghost Value = { List JournalEntry };
 
-    ghost use Rattle.mk_ledger.specs.JournalRuns.{entries_of, AreKept};
+    ghost use Rattle.mk_journal.specs.JournalRuns.{entries_of, AreKept};
 
     ghost view = { λ j. entries_of j.runs.items };
 
@@ -187,10 +187,12 @@ impl Journal {
 fn grow_last(runs: &mut Vec<Run>, entry: JournalEntry) -> bool
     requires third { HasItsThird entry }
     requires within { All IsRun runs.old.items }
-    ensures grown { IsTrue result → entries_of runs.new.items ≡ entries_of runs.old.items ++ entry ∷ [] }
+    ensures grown { IsTrue result →
+        entries_of runs.new.items ≡ entries_of runs.old.items ++ entry ∷ [] }
     ensures same { result ≡ false → runs.new.items ≡ runs.old.items }
     ensures within { All IsRun runs.new.items }
-    ensures starts { (starts : List ℕ) → AreStarts starts runs.old.items → AreStarts starts runs.new.items }
+    ensures starts { (starts : List ℕ) → AreStarts starts runs.old.items →
+        AreStarts starts runs.new.items }
 {
     let count = runs.len();
     if count == 0 {
@@ -243,9 +245,11 @@ fn keep_start(starts: &mut Vec<u64>, runs: &[Run], count: u64) -> Result<(), NoM
 fn take_last(runs: &mut Vec<Run>)
     requires some { 0 < length runs.old.items }
     requires within { All IsRun runs.old.items }
-    ensures value { entries_of runs.new.items ≡ take (length (entries_of runs.old.items) - 1) (entries_of runs.old.items) }
+    ensures value { entries_of runs.new.items
+        ≡ take (length (entries_of runs.old.items) - 1) (entries_of runs.old.items) }
     ensures within { All IsRun runs.new.items }
-    ensures starts { (starts : List ℕ) → AreStarts starts runs.old.items → AreStarts starts runs.new.items }
+    ensures starts { (starts : List ℕ) → AreStarts starts runs.old.items →
+        AreStarts starts runs.new.items }
 {
     let count = runs.len();
     if runs[count - 1].more() > 0 {

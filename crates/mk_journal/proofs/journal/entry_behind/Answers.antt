@@ -1,8 +1,8 @@
 use Rattle.std.proofs.Common.{◌<◌, ◌≤◌, get_or, arith, ap, sym, ◌∙◌}
 use Rattle.std.specs.Prelude.{Some}
-use Rattle.mk_ledger.specs.JournalRuns.{more_of}
-use Rattle.mk_ledger.proofs.JournalRuns.{no_run, read_at, entries_to, not_last, entry_found}
-use Rattle.mk_ledger.proofs.journal.entry_behind.Goals as goal
+use Rattle.mk_journal.specs.JournalRuns.{more_of}
+use Rattle.mk_journal.proofs.JournalRuns.{no_run, read_at, entries_to, not_last, entry_found}
+use Rattle.mk_journal.proofs.journal.entry_behind.Goals as goal
 
 pub loop-left-preserved : goal.loop-left-preserved
 loop-left-preserved c =

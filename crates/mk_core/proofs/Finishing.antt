@@ -8,7 +8,7 @@ use Rattle.mk_model.specs.Events.{HasNormalReduct, IsPairOverflow}
 use Rattle.mk_model.specs.Legal.{IsLegal, IsEnded, IsHaltKept}
 use Rattle.mk_model.proofs.LegalEvents.{phase_is_legal}
 use Rattle.mk_move.specs.MoveLists.{BasisView, IsBasis, vectors_of}
-use Rattle.mk_ledger.specs.Entries.{settle_of, settles_of}
+use Rattle.mk_journal.specs.Entries.{settle_of, settles_of}
 use Rattle.mk_ledger.specs.Halts.{stop_of, halt_as}
 use Rattle.mk_ledger.specs.FirstHalts.{IsFirstHalt}
 use Rattle.mk_ledger.specs.Ledgers.{LedgerView}

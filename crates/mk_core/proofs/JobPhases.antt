@@ -3,9 +3,9 @@ use Rattle.std.proofs.Common.{◌≡◌, ◌≢◌, ◌↔◌, inl, inr, ℕ, �
 use Rattle.std.proofs.lemmas.List.{length-map, take_all}
 use Rattle.mk_model.specs.Legal.{IsLegal, IsEnded}
 use Rattle.mk_move.specs.MoveLists.{vectors_of}
-use Rattle.mk_ledger.specs.Entries.{settle_of}
+use Rattle.mk_journal.specs.Entries.{settle_of}
 use Rattle.mk_ledger.specs.Ledgers.{LedgerView}
-use Rattle.mk_core.specs.declared.phase.Job.{Job}
+use Rattle.mk_core.specs.Jobs.{JobView}
 use Rattle.mk_core.specs.declared.phase.Phase.{Phase}
 use Rattle.mk_core.specs.declared.phase.Stopped.{Stopped}
 use Rattle.mk_core.specs.declared.phase.Stopped.TheVariants.{Memory, Overflow, OverBudget, BasisFull}
@@ -13,7 +13,7 @@ use Rattle.mk_core.specs.Phases.{ledger_for, state_of, phase_in, AnswersOverBudg
 use Rattle.mk_core.specs.JobPhases.{IsLedgerOf, IsPhaseOf, IsUsedUp, CompletesJob}
 
 -- A ledger of a job, in which fewer pairs are settled than the budget has where a halt stands.
-module _ (job : Job) (ledger : LedgerView) (h : IsLedgerOf job ledger) (halts_within : ledger.state.first_halted ≢ None → length ledger.state.journal < ledger.state.budget) where
+module _ (job : JobView) (ledger : LedgerView) (h : IsLedgerOf job ledger) (halts_within : ledger.state.first_halted ≢ None → length ledger.state.journal < ledger.state.budget) where
   phase_of_job : (phase : Phase) → IsPhaseFrom ledger phase → IsPhaseOf job phase
   phase_of_job phase from = record {
     basis = from.basis;
@@ -46,7 +46,7 @@ module _ (job : Job) (ledger : LedgerView) (h : IsLedgerOf job ledger) (halts_wi
       (phase_of_job phase from, record { full = full.full ∙ h.limit; normal_reduct = full.normal_reduct; left = full.left }, within_job phase from within)
 
 -- ---- by one worker
-begins_as : (job : Job) → IsLedgerOf job (ledger_for job)
+begins_as : (job : JobView) → IsLedgerOf job (ledger_for job)
 begins_as job = record {
   priority = refl;
   grading = refl;
@@ -56,11 +56,11 @@ begins_as job = record {
   limit = refl;
 }
 
-pub completes_alone : (job : Job) (result : Result Phase Stopped) → Finishes (ledger_for job) result → CompletesJob job result
+pub completes_alone : (job : JobView) (result : Result Phase Stopped) → Finishes (ledger_for job) result → CompletesJob job result
 completes_alone job = completes_from job (ledger_for job) (begins_as job) (λ halted. absurd (halted refl))
 
 -- ---- the budget is used up exactly where the answer says so
-pub exactly_used_up : (job : Job) (result : Result Phase Stopped) → CompletesJob job result → IfSome (phase_in result) (λ phase. AnswersOverBudget result ↔ IsUsedUp job phase)
+pub exactly_used_up : (job : JobView) (result : Result Phase Stopped) → CompletesJob job result → IfSome (phase_in result) (λ phase. AnswersOverBudget result ↔ IsUsedUp job phase)
 exactly_used_up job (Ok phase) (of_job, ended) = (λ h. absurd h, λ over. absurd (over.left.unsettled (ended.all_settled over.pair over.left.of_basis)))
 exactly_used_up job (Err Memory) e = tt
 exactly_used_up job (Err (Overflow phase stop)) (of_job, left, genuine, within) = (λ h. absurd h, λ over. absurd (omega (arith, within, over.used_up)))

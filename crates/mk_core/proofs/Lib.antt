@@ -8,9 +8,6 @@ pub mod JobPhases
 pub mod Completions
 pub mod Remainders
 pub mod NeededMoves
-pub mod Seats
-pub mod Lines
-pub mod Turns
-pub mod Halting
+pub mod GrownBases
 pub mod Neighbours
 pub mod DisjointPairs

@@ -14,7 +14,7 @@ use Rattle.mk_model.specs.Saturation.{has_divisor, needed, drop_redundant}
 use Rattle.mk_model.proofs.Divisors.{Decides-divides, Divides-itself}
 use Rattle.mk_move.specs.Moves.{Weighed}
 use Rattle.mk_move.specs.MoveLists.{BasisView, vectors_of}
-use Rattle.mk_reduce.proofs.Beginnings.{vector_at, length-vectors_of}
+use Rattle.mk_move.proofs.MoveVectors.{vector_at, length-vectors_of}
 use Rattle.mk_core.specs.Redundancy.{is_redundant_at, makes_redundant}
 
 -- ---- the test of two places

@@ -1,9 +1,11 @@
 -- How a completion by one worker goes on from a ledger to a later one, and where it ends.
-use Rattle.std.specs.Prelude.{◌≡◌, ◌≢◌, ℕ, ◌≤◌, ◌<◌, Bool, true, false, List, ◌++◌, length, All, None, Some}
+use Rattle.std.specs.Prelude.{◌≡◌, ◌≢◌, ℕ, ◌≤◌, ◌<◌, Bool, true, false, List, ◌++◌, length, All, Option, None, Some, ℤ}
 use Rattle.mk_model.specs.CoreStates.{Pair, Settle, CoreState, claim_of, start_of, IsFree}
 use Rattle.mk_model.specs.Events.{IsChain, HaveCommonColumn}
 use Rattle.mk_model.specs.Legal.{IsEnded}
-use Rattle.mk_ledger.specs.Entries.{settles_of, HaveTheirThirds}
+use Rattle.mk_move.specs.MoveLists.{BasisView}
+use Rattle.mk_reduce.specs.Leads.{leads_of}
+use Rattle.mk_journal.specs.Entries.{settles_of, HaveTheirThirds}
 use Rattle.mk_ledger.specs.Ledgers.{LedgerView, IsLedger}
 use Rattle.mk_core.specs.declared.phase.Phase.{Phase}
 use Rattle.mk_core.specs.Phases.{IsByFirst, IsHaltedOrWithin}
@@ -26,6 +28,11 @@ pub record ContinuesLedger (before after : LedgerView) : Type 0 where
   pub by_first : All IsByFirst more
   pub stays : before.state.first_halted ≢ None → after ≡ before
   pub halts_within : after.state.first_halted ≢ None → IsHaltedOrWithin before (length after.state.journal)
+
+-- the leads that a finder has, where it is made, are those of the moves of the basis
+abbrev pub AreLeadsOnceMade : Option (List (List ℤ)) → BasisView → Type 0
+AreLeadsOnceMade None basis = Unit {0}
+AreLeadsOnceMade (Some leads) basis = leads ≡ leads_of basis.moves
 
 -- no worker has a claim
 abbrev pub NoneClaims : CoreState → Type 0

@@ -1,9 +1,9 @@
+pub mod Jobs
 pub mod Phases
 pub mod JobPhases
 pub mod GoingOn
 pub mod Remainders
-pub mod Halting
-pub mod Seats
+pub mod GrownBases
 pub mod SaturatedBases
 pub mod Redundancy
 pub mod Neighbours

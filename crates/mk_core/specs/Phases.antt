@@ -6,16 +6,16 @@ use Rattle.mk_model.specs.CoreStates.Halt.{Overflow as HaltOverflow, Full as Hal
 use Rattle.mk_model.specs.Events.{HasNormalReduct, IsPairOverflow}
 use Rattle.mk_model.specs.Legal.{IsLegal, IsEnded}
 use Rattle.mk_move.specs.MoveLists.{IsBasis, vectors_of}
-use Rattle.mk_ledger.specs.Entries.{settles_of, HaveTheirThirds}
+use Rattle.mk_journal.specs.Entries.{settles_of, HaveTheirThirds}
 use Rattle.mk_ledger.specs.Halts.{stop_of}
 use Rattle.mk_ledger.specs.Ledgers.{LedgerView}
-use Rattle.mk_core.specs.declared.phase.Job.{Job}
+use Rattle.mk_core.specs.Jobs.{JobView}
 use Rattle.mk_core.specs.declared.phase.Phase.{Phase}
 use Rattle.mk_core.specs.declared.phase.Stopped.{Stopped}
 use Rattle.mk_core.specs.declared.phase.Stopped.TheVariants.{Memory, Overflow, OverBudget, BasisFull}
 
 -- the ledger that a job begins with, for one worker
-abbrev pub ledger_for : Job → LedgerView
+abbrev pub ledger_for : JobView → LedgerView
 ledger_for job = record { basis = job.start; state = new_state (vectors_of job.start.moves) job.budget job.basis_limit 1 }
 
 -- a phase as a state without workers, read with a budget and a limit

@@ -1,12 +1,10 @@
 -- Why the work on a pair of a basis stops, and whose remainder is placed. (Sturmfels, chapters 1 and 5: the remainder of an
 -- S-pair)
-use Rattle.std.specs.Prelude.{◌≡◌, List, Option, ℤ}
-use Rattle.mk_model.specs.CoreStates.{Pair}
+use Rattle.std.specs.Prelude.{◌≡◌, ℕ, List, Some, ℤ}
+use Rattle.mk_model.specs.CoreStates.{Pair, claim_of}
 use Rattle.mk_model.specs.Overflows.{IsGenuineOverflow}
 use Rattle.mk_move.specs.Moves.{Weighed}
 use Rattle.mk_reduce.specs.Remainders.{IsNormalRest}
-use Rattle.mk_reduce.specs.declared.stop.Stop.{Stop}
-use Rattle.mk_reduce.specs.declared.stop.Stop.TheVariants.{Memory as StopMemory, Overflow as StopOverflow}
 use Rattle.mk_reduce.specs.declared.remainder.RemainderFault.{RemainderFault}
 use Rattle.mk_reduce.specs.declared.remainder.RemainderFault.TheVariants.{Memory as NoMemory, Overflow as OutOfRange}
 use Rattle.mk_ledger.specs.Halts.{stop_of}
@@ -25,13 +23,14 @@ abbrev pub fault_for : Pair → RemainderFault → WorkFault
 fault_for pair NoMemory = Memory
 fault_for pair (OutOfRange by operand at) = Overflow (record { i = pair.first; j = pair.second; by = by; operand = operand; at = at })
 
--- the fault for a stop of the work on the pair, where so much was left
-abbrev pub fault_of_stop : Pair → Option Weighed → Stop → WorkFault
-fault_of_stop pair operand StopMemory = Memory
-fault_of_stop pair operand (StopOverflow by at) = fault_for pair (OutOfRange by operand at)
-
 -- the remainder of the pair that the first worker, and no other, has claimed
 pub record IsRemainderOfClaim (ledger : LedgerView) (m : Weighed) : Type 0 where
   pub pair : Pair
   pub claims : FirstClaims ledger.state pair
+  pub rest : IsNormalRest ledger.basis pair m
+
+-- what is left of the worker's claim, reduced by the whole basis
+pub record IsRestOfClaim (ledger : LedgerView) (worker : ℕ) (m : Weighed) : Type 0 where
+  pub pair : Pair
+  pub claimed : claim_of ledger.state worker ≡ Some pair
   pub rest : IsNormalRest ledger.basis pair m

@@ -41,8 +41,10 @@ impl Completed {
         ensures value { result.now ≡ self.now }
         ensures kept { IsCompleted self.now }
         ensures joined { (rows : List (List ℤ)) →
-            AreOrientedMoves (lattice_of (length self.now.basis.grading) rows self.now.basis.grading) self.now.basis.priority (start_of (state_of self.now 0 0)) →
-            EveryPairJoined (length self.now.basis.grading) self.now.basis.priority (vectors_of self.now.basis.moves) }
+            AreOrientedMoves (lattice_of (length self.now.basis.grading) rows self.now.basis.grading)
+            self.now.basis.priority (start_of (state_of self.now 0 0)) →
+            EveryPairJoined (length self.now.basis.grading) self.now.basis.priority
+            (vectors_of self.now.basis.moves) }
     {
         &self.phase
     }

@@ -7,7 +7,7 @@ ghost use Rattle.mk_model.specs.Legal.{IsEnded};
 ghost use Rattle.mk_move.specs.MoveLists.{vectors_of};
 ghost use Rattle.mk_ledger.specs.FirstHalts.{IsFirstHalt};
 ghost use Rattle.mk_reduce.specs.Leads.{leads_of};
-ghost use Rattle.mk_core.specs.GoingOn.{ContinuesLedger, GoesOnUnclaimed, IsPairGiven, NoneClaims, FirstClaims, EndsBy, IsPhaseOfLedger};
+ghost use Rattle.mk_core.specs.GoingOn.{AreLeadsOnceMade, ContinuesLedger, GoesOnUnclaimed, IsPairGiven, NoneClaims, FirstClaims, EndsBy, IsPhaseOfLedger};
 ghost use Rattle.mk_core.specs.Phases.{ledger_for, phase_in, Finishes, AnswersOverBudget, PhaseIsOverBudget, HandsOn};
 ghost use Rattle.mk_core.specs.Remainders.{IsRemainderOfClaim};
 
@@ -27,15 +27,13 @@ use std::alloc::Global;
 /// whose leads have no column in common, or else that a third move settles, isn't reduced. Any other whose difference doesn't
 /// reduce to 0 is settled by its remainder, which becomes the next move.
 ///
-/// The start has at most `basis_limit` moves, and the limit is at most 65,536. `Stopped` has what was done until then:
-/// `Overflow` names the first entry out of range; `OverBudget` comes where as many pairs are settled as the budget has while
-/// one is left; `BasisFull` where the basis has its limit of moves while a pair needs another. (Sturmfels, chapters 1 and
-/// 12: Buchberger's algorithm for a lattice)
+/// `Stopped` has what was done until then: `Overflow` names the first entry out of range; `OverBudget` comes where as many
+/// pairs are settled as the budget has while one is left; `BasisFull` where the basis has its limit of moves while a pair needs
+/// another. (Sturmfels, chapters 1 and 12: Buchberger's algorithm for a lattice)
 pub fn complete_alone(alloc: Global, job: Job) -> Result<Completed, Stopped>
-    requires start { length job.start.moves ≤ job.basis_limit }
-    requires limit { job.basis_limit ≤ 65536 }
     ensures answer { Finishes (ledger_for job) result }
-    ensures over_budget { IfSome (phase_in result) (λ phase. AnswersOverBudget result ↔ PhaseIsOverBudget (ledger_for job) phase) }
+    ensures over_budget { IfSome (phase_in result)
+        (λ phase. AnswersOverBudget result ↔ PhaseIsOverBudget (ledger_for job) phase) }
 {
     let Job {
         start,
@@ -51,11 +49,12 @@ pub fn complete_alone(alloc: Global, job: Job) -> Result<Completed, Stopped>
 pub fn finish_alone(alloc: Global, mut ledger: Ledger) -> Result<Completed, Stopped>
     requires unclaimed { (worker : ℕ) → claim_of ledger.state worker ≡ None }
     ensures answer { Finishes ledger result }
-    ensures over_budget { IfSome (phase_in result) (λ phase. AnswersOverBudget result ↔ PhaseIsOverBudget ledger phase) }
-    ensures halted { (worker : ℕ) (halt : CoreHalt) → ledger.state.first_halted ≡ Some worker → halt_of ledger.state worker ≡ Some halt → HandsOn halt result }
+    ensures over_budget { IfSome (phase_in result)
+        (λ phase. AnswersOverBudget result ↔ PhaseIsOverBudget ledger phase) }
+    ensures halted { (worker : ℕ) (halt : CoreHalt) → ledger.state.first_halted ≡ Some worker →
+        halt_of ledger.state worker ≡ Some halt → HandsOn halt result }
 {
-    let mut finder = finder_of(alloc, ledger.basis())?;
-    match settle_pairs(alloc, &mut ledger, &mut finder)? {
+    match settle_pairs(alloc, &mut ledger)? {
         Ending::Ended => Ok(ended(ledger)),
         Ending::OverBudget => Err(over_budget(ledger)),
         Ending::Halted => Err(stopped_by(ledger)),
@@ -84,23 +83,51 @@ pub fn finder_of(alloc: Global, basis: &Basis) -> Result<LeadFinder, NoMemory>
     Ok(finder)
 }
 
-/// Settles pair after pair until no pair is claimed, and says why none is.
-fn settle_pairs(
+/// What reduces pairs one after another: room for a difference, and a finder of the leads of the basis, which is made where the
+/// first pair is reduced, since a completion may end without.
+#[derive(Drop)]
+struct Reducer {
     alloc: Global,
-    ledger: &mut Ledger,
-    finder: &mut LeadFinder,
-) -> Result<Ending, NoMemory>
+    scratch: Scratch,
+    finder: Option<LeadFinder>,
+}
+
+impl Reducer {
+    /// Before the first reduction.
+    fn new(alloc: Global) -> Reducer
+        ensures { result.finder ≡ None }
+    {
+        Reducer {
+            alloc,
+            scratch: Scratch::new(),
+            finder: None,
+        }
+    }
+
+    /// Makes the finder, unless it is made.
+    fn make_finder(&mut self, basis: &Basis) -> Result<(), NoMemory>
+        requires { AreLeadsOnceMade self.old.finder basis.now }
+        ensures { OnOk result (self.new.finder ≡ Some (leads_of basis.now.moves)) }
+    {
+        if self.finder.is_none() {
+            self.finder = Some(finder_of(self.alloc, basis)?);
+        }
+        Ok(())
+    }
+}
+
+/// Settles pair after pair until no pair is claimed, and says why none is.
+fn settle_pairs(alloc: Global, ledger: &mut Ledger) -> Result<Ending, NoMemory>
     requires unclaimed { NoneClaims ledger.old.state }
-    requires leads { finder.old ≡ leads_of ledger.old.basis.moves }
     ensures goes_on { OnOk result (ContinuesLedger ledger.old ledger.new) }
     ensures ending { IfOk result (EndsBy ledger.new.state) }
 {
-    let mut scratch = Scratch::new();
+    let mut reducer = Reducer::new(alloc);
     let mut third_moves = ThirdMoves::new(alloc);
     loop {
         skip_disjoint(ledger)?;
         match next_pair(ledger) {
-            Ok((i, j)) => settle_pair(&mut scratch, ledger, finder, &mut third_moves, i, j)?,
+            Ok((i, j)) => settle_pair(ledger, &mut reducer, &mut third_moves, i, j)?,
             Err(ending) => return Ok(ending),
         }
     }
@@ -127,22 +154,25 @@ fn next_pair(ledger: &mut Ledger) -> Result<(u32, u32), Ending>
 /// Settles the pair that the worker has claimed: without reduction, where its leads have no column in common or a third move
 /// is found that settles it, and else by its remainder. Or halts where an entry leaves its range or the basis is full.
 fn settle_pair(
-    scratch: &mut Scratch,
     ledger: &mut Ledger,
-    finder: &mut LeadFinder,
+    reducer: &mut Reducer,
     third_moves: &mut ThirdMoves,
     i: u32,
     j: u32,
 ) -> Result<(), NoMemory>
     requires claimed { FirstClaims ledger.old.state (pair_of i j) }
-    requires leads { finder.old ≡ leads_of ledger.old.basis.moves }
+    requires leads { AreLeadsOnceMade reducer.old.finder ledger.old.basis }
     ensures goes_on { OnOk result (GoesOnUnclaimed ledger.old ledger.new) }
-    ensures leads { OnOk result (finder.new ≡ leads_of ledger.new.basis.moves) }
+    ensures leads { OnOk result (AreLeadsOnceMade reducer.new.finder ledger.new.basis) }
 {
     if skip_pair(ledger, third_moves, i, j)? {
         return Ok(());
     }
-    reduce_pair(scratch, ledger, finder, i, j)
+    reducer.make_finder(ledger.basis())?;
+    match &mut reducer.finder {
+        Some(finder) => reduce_pair(&mut reducer.scratch, ledger, finder, i, j),
+        None => unreachable!(),
+    }
 }
 
 /// Settles the pair that the worker has claimed by its remainder, or halts where an entry leaves its range or the basis is
@@ -233,7 +263,8 @@ fn phase_of(ledger: Ledger) -> (Phase, Option<Halt>)
 fn stopped_by(ledger: Ledger) -> Stopped
     requires { EndsBy ledger.state Ending.Halted }
     ensures answer { Finishes ledger (Err result) }
-    ensures halted { (worker : ℕ) (halt : CoreHalt) → ledger.state.first_halted ≡ Some worker → halt_of ledger.state worker ≡ Some halt → HandsOn halt (Err result) }
+    ensures halted { (worker : ℕ) (halt : CoreHalt) → ledger.state.first_halted ≡ Some worker →
+        halt_of ledger.state worker ≡ Some halt → HandsOn halt (Err result) }
 {
     let (phase, first_halt) = phase_of(ledger);
     match first_halt {

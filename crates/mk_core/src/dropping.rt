@@ -9,7 +9,8 @@ use mk_move::{Basis, Move, Side, lead_divides};
 /// The moves of a basis that are not redundant, in their order: those whose lead no other lead divides, but for a later one
 /// that is the same. (Sturmfels, chapter 1: a minimal basis of leading terms)
 pub fn drop_redundant(basis: &Basis) -> Result<Basis, NoMemory>
-    ensures moves { IfOk result (λ kept. vectors_of kept.moves ≡ drop_redundant (vectors_of basis.now.moves)) }
+    ensures moves { IfOk result
+        (λ kept. vectors_of kept.moves ≡ drop_redundant (vectors_of basis.now.moves)) }
     ensures priority { IfOk result (λ kept. kept.priority ≡ basis.now.priority) }
     ensures grading { IfOk result (λ kept. kept.grading ≡ basis.now.grading) }
     ensures few { IfOk result (λ kept. length kept.moves ≤ length basis.now.moves) }

@@ -1,24 +1,18 @@
-//! Completion of a basis by one worker, or by several that take turns: each pair of its moves is settled, by the ledger, until
-//! every pair is joined below.
+//! Completion of a basis by one worker: each pair of its moves is settled, by the ledger, until every pair is joined below.
 #![tactic(auto)]
 
 mod completed;
 mod completion;
-mod driving;
 mod dropping;
-mod laws;
 mod phase;
 mod saturated;
-mod seat;
 mod skipping;
 mod third_moves;
 mod work;
 
 pub use completed::Completed;
 pub use completion::{LeadFinder, complete_alone, finder_of, finish_alone};
-pub use driving::{Turn, drive, drive_halting};
 pub use dropping::drop_redundant;
-pub use laws::refusals_happen_by_events;
 pub use mk_ledger::{Journal, JournalEntry, Kind};
 pub use phase::{Job, Phase, Stopped};
 pub use saturated::SaturatedBasis;

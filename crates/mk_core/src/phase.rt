@@ -1,6 +1,7 @@
 use mk_ledger::{Journal, OverflowStop};
 use mk_model::NoMemory;
 use mk_move::Basis;
+use std::marker::Model;
 
 /// What a completion begins with: the moves of the start, how many pairs may be settled, and how many moves the basis may
 /// have, at most 65,536 and no fewer than the start.
@@ -9,6 +10,16 @@ pub struct Job {
     pub start: Basis,
     pub budget: u64,
     pub basis_limit: u32,
+}
+
+impl Model for Job {
+    ghost use Rattle.mk_core.specs.Jobs.{JobView, job_with, KeepsLimit};
+
+    ghost Value = { JobView };
+
+    ghost view = { λ j. job_with j.start j.budget j.basis_limit };
+
+    ghost invariant = { λ j. KeepsLimit (job_with j.start j.budget j.basis_limit) };
 }
 
 /// What a completion has done: how many moves it began with, its basis, and the journal of the settled pairs.

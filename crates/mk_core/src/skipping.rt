@@ -1,16 +1,13 @@
 //! Pairs that are settled without reduction.
 
-ghost use Rattle.std.specs.Prelude.{◌≡◌, ◌↔◌, ◌<◌, IsTrue, length, IfOk, OnOk};
-ghost use Rattle.mk_model.specs.CoreStates.{pair_of, move_at};
-ghost use Rattle.mk_model.specs.Orders.{lead};
-ghost use Rattle.mk_model.specs.Pairs.{AreDisjoint};
-ghost use Rattle.mk_move.specs.MoveLists.{vectors_of};
+ghost use Rattle.std.specs.Prelude.{◌≡◌, IfOk, OnOk};
+ghost use Rattle.mk_model.specs.CoreStates.{pair_of};
 ghost use Rattle.mk_core.specs.GoingOn.{GoesOnUnclaimed, NoneClaims, FirstClaims, SkipsPair, IsChainOfClaim};
 
 use crate::third_moves::ThirdMoves;
+use mk_criteria::have_coprime_leads;
 use mk_ledger::{ChainFault, Ledger};
 use mk_model::NoMemory;
-use mk_move::{Basis, coprime_leads};
 
 /// Claims and settles the next pairs of one second place, as long as the masks of their leads have no bit in common.
 pub(crate) fn skip_disjoint(ledger: &mut Ledger) -> Result<(), NoMemory>
@@ -47,27 +44,12 @@ pub(crate) fn skip_pair(
     }
 }
 
-/// Have the leads of two moves of the basis no column in common?
-pub(crate) fn have_coprime_leads(basis: &Basis, i: u32, j: u32) -> bool
-    requires first { i < length basis.now.moves }
-    requires second { j < length basis.now.moves }
-    ensures { IsTrue result ↔ AreDisjoint (lead (move_at (vectors_of basis.now.moves) i)) (lead (move_at (vectors_of basis.now.moves) j)) }
-{
-    let masks = basis.lead_masks();
-    if masks[i as usize] & masks[j as usize] == 0 {
-        return true;
-    }
-    coprime_leads(basis.move_at(i), basis.move_at(j))
-}
-
 /// Settles the claimed pair through a third move.
 fn settle_by_chain(ledger: &mut Ledger, k: u32) -> Result<(), NoMemory>
     requires { IsChainOfClaim ledger.old.state k }
     ensures goes_on { OnOk result (GoesOnUnclaimed ledger.old ledger.new) }
     ensures basis { OnOk result (ledger.new.basis ≡ ledger.old.basis) }
 {
-    // Whoever has its basis knows that it is legal.
-    let _ = ledger.basis();
     match ledger.settle_chain(0, k) {
         Ok(()) => Ok(()),
         Err(ChainFault::Memory) => Err(NoMemory),

@@ -52,7 +52,8 @@ impl ThirdMoves {
     pub(crate) fn find(&mut self, ledger: &Ledger, i: u32, j: u32) -> Result<Option<u32>, NoMemory>
         requires ordered { i < j }
         requires within { j < length ledger.now.basis.moves }
-        ensures { IfOk result (λ found. IfSome found (IsChain ledger.now.state.basis ledger.now.state.journal (pair_of i j))) }
+        ensures { IfOk result (λ found. IfSome found
+            (IsChain ledger.now.state.basis ledger.now.state.journal (pair_of i j))) }
     {
         let basis = ledger.basis();
         let masks = basis.lead_masks();
@@ -71,7 +72,8 @@ impl ThirdMoves {
     fn find_another(&mut self, ledger: &Ledger, i: u32, j: u32) -> Result<Option<u32>, NoMemory>
         requires ordered { i < j }
         requires within { j < length ledger.now.basis.moves }
-        ensures { IfOk result (λ found. IfSome found (IsChain ledger.now.state.basis ledger.now.state.journal (pair_of i j))) }
+        ensures { IfOk result (λ found. IfSome found
+            (IsChain ledger.now.state.basis ledger.now.state.journal (pair_of i j))) }
     {
         let masks = ledger.basis().lead_masks();
         self.turn_to(masks, i, j)?;
@@ -106,7 +108,8 @@ impl ThirdMoves {
     /// Extends the divisors to the places below one.
     fn note_divisors(&mut self, masks: &[u64], j: u32) -> Result<(), NoMemory>
         requires { j < length masks.now }
-        ensures { OnOk result (AreDivisorsBetween masks.now (length self.old.divisors.items) j self.new.divisors.items) }
+        ensures { OnOk result
+            (AreDivisorsBetween masks.now (length self.old.divisors.items) j self.new.divisors.items) }
     {
         for place in self.divisors.len()..j as usize {
             self.divisors.push(first_divisor(masks, place))?;
@@ -135,7 +138,8 @@ impl ThirdMoves {
     fn search(&mut self, ledger: &Ledger, i: u32, j: u32) -> Option<u32>
         requires ordered { i < j }
         requires within { j < length ledger.now.basis.moves }
-        ensures { IfSome result (IsChain ledger.now.state.basis ledger.now.state.journal (pair_of i j)) }
+        ensures { IfSome result
+            (IsChain ledger.now.state.basis ledger.now.state.journal (pair_of i j)) }
     {
         let basis = ledger.basis();
         match self.divisors.get(i as usize).copied() {
@@ -151,7 +155,8 @@ impl ThirdMoves {
     fn search_candidates(&mut self, ledger: &Ledger, i: u32, j: u32) -> Option<u32>
         requires ordered { i < j }
         requires within { j < length ledger.now.basis.moves }
-        ensures { IfSome result (IsChain ledger.now.state.basis ledger.now.state.journal (pair_of i j)) }
+        ensures { IfSome result
+            (IsChain ledger.now.state.basis ledger.now.state.journal (pair_of i j)) }
     {
         let at = self.first_serving(ledger, i, j)?;
         let place = self.candidates[at].place;
@@ -163,7 +168,8 @@ impl ThirdMoves {
     fn first_serving(&self, ledger: &Ledger, i: u32, j: u32) -> Option<usize>
         requires ordered { i < j }
         requires within { j < length ledger.now.basis.moves }
-        ensures { IfSome result (IsServingAt ledger.now.state (pair_of i j) self.now.candidates.items) }
+        ensures { IfSome result
+            (IsServingAt ledger.now.state (pair_of i j) self.now.candidates.items) }
     {
         let basis = ledger.basis();
         let masks = basis.lead_masks();

@@ -30,7 +30,8 @@ pub fn work_on(
 ) -> Result<Option<Move>, WorkFault>
     requires leads { finder.now ≡ leads_of basis.now.moves }
     requires pair { IsPairOf (vectors_of basis.now.moves) (pair_of i j) }
-    ensures { MatchResult result (IsRemainder basis.now (pair_of i j)) (IsWorkFault (vectors_of basis.now.moves) (pair_of i j)) }
+    ensures { MatchResult result (IsRemainder basis.now (pair_of i j))
+        (IsWorkFault (vectors_of basis.now.moves) (pair_of i j)) }
 {
     match remainder_in(scratch, basis, finder, i, j) {
         Ok(left) => Ok(left),
@@ -39,7 +40,7 @@ pub fn work_on(
 }
 
 /// The fault where there is no remainder of a pair.
-pub(crate) fn work_fault(i: u32, j: u32, fault: RemainderFault) -> WorkFault
+fn work_fault(i: u32, j: u32, fault: RemainderFault) -> WorkFault
     ensures { result ≡ fault_for (pair_of i j) fault }
 {
     match fault {

@@ -2,5 +2,7 @@
 #![tactic(auto)]
 
 mod chains;
+mod disjoint;
 
-pub use chains::{chain_candidates, find_chain, is_chain};
+pub use chains::{TRIES_MAX, chain_candidates, find_chain, is_chain, next_third};
+pub use disjoint::have_coprime_leads;

@@ -1,5 +1,4 @@
-use Rattle.std.proofs.Common.{Ok, Err, ap, subst, ◌∙◌}
-use Rattle.mk_reduce.specs.Leads.{leads_of}
+use Rattle.std.proofs.Common.{Ok, Err, subst}
 use Rattle.mk_core.specs.declared.completion.Ending.TheVariants.{Ended, OverBudget, Halted}
 use Rattle.mk_core.specs.GoingOn.{EndsBy}
 use Rattle.mk_core.proofs.Finishing.{Finishes-earlier, over_budget_earlier, first_stays, none_stood}
@@ -16,11 +15,8 @@ at_over_budget c = subst (EndsBy c.settle_pairs.new.ledger.state) c.in-OverBudge
 at_halted : (c : In-Halted) → EndsBy c.settle_pairs.new.ledger.state Halted
 at_halted c = subst (EndsBy c.settle_pairs.new.ledger.state) c.in-Halted.is c.in_ok-settle_pairs.ensures.ending
 
-pub settle_pairs-requires-clause-unclaimed : goal.settle_pairs-requires-clause-unclaimed
-settle_pairs-requires-clause-unclaimed c = c.requires.unclaimed
-
-pub settle_pairs-requires-clause-leads : goal.settle_pairs-requires-clause-leads
-settle_pairs-requires-clause-leads c = c.in_ok-finder.ensures ∙ ap (λ b. leads_of b.moves) c.basis.ensures.value
+pub settle_pairs-requires : goal.settle_pairs-requires
+settle_pairs-requires c = record { unclaimed = c.requires.unclaimed }
 
 pub ended-requires : goal.ended-requires
 ended-requires c = (at_ended (goal.at.ended-requires c).In-Ended).1
@@ -39,8 +35,8 @@ pub returns-in-OverBudget-clause-answer : goal.returns-in-OverBudget-clause-answ
 returns-in-OverBudget-clause-answer c =
     Finishes-earlier c.args.ledger c.settle_pairs.new.ledger c.in_ok-settle_pairs.ensures.goes_on (Err c.over_budget.result) c.over_budget.ensures
 
-pub returns-clause-answer : goal.returns-clause-answer
-returns-clause-answer c =
+pub returns-in-Halted-clause-answer : goal.returns-in-Halted-clause-answer
+returns-in-Halted-clause-answer c =
     Finishes-earlier c.args.ledger c.settle_pairs.new.ledger c.in_ok-settle_pairs.ensures.goes_on (Err c.stopped_by.result) c.stopped_by.ensures.answer
 
 pub returns-in-Ended-clause-over_budget : goal.returns-in-Ended-clause-over_budget
@@ -51,8 +47,8 @@ pub returns-in-OverBudget-clause-over_budget : goal.returns-in-OverBudget-clause
 returns-in-OverBudget-clause-over_budget c =
     over_budget_earlier c.args.ledger c.settle_pairs.new.ledger c.in_ok-settle_pairs.ensures.goes_on (Err c.over_budget.result) c.over_budget.ensures
 
-pub returns-clause-over_budget : goal.returns-clause-over_budget
-returns-clause-over_budget c =
+pub returns-in-Halted-clause-over_budget : goal.returns-in-Halted-clause-over_budget
+returns-in-Halted-clause-over_budget c =
     over_budget_earlier c.args.ledger c.settle_pairs.new.ledger c.in_ok-settle_pairs.ensures.goes_on (Err c.stopped_by.result) c.stopped_by.ensures.answer
 
 pub returns-in-Ended-clause-halted : goal.returns-in-Ended-clause-halted
@@ -63,7 +59,7 @@ pub returns-in-OverBudget-clause-halted : goal.returns-in-OverBudget-clause-halt
 returns-in-OverBudget-clause-halted c worker halt e f =
     absurd (none_stood c.args.ledger c.settle_pairs.new.ledger c.in_ok-settle_pairs.ensures.goes_on worker ((at_over_budget (goal.at.returns-in-OverBudget-clause-halted c).In-OverBudget).0) e)
 
-pub returns-clause-halted : goal.returns-clause-halted
-returns-clause-halted c worker halt e f =
+pub returns-in-Halted-clause-halted : goal.returns-in-Halted-clause-halted
+returns-in-Halted-clause-halted c worker halt e f =
     let (first, kept) = first_stays c.args.ledger c.settle_pairs.new.ledger c.in_ok-settle_pairs.ensures.goes_on worker halt e f in
     c.stopped_by.ensures.halted worker halt first kept

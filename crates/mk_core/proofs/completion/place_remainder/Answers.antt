@@ -36,13 +36,13 @@ kept c = c.basis-in-Ok.ensures.kept.basis
 
 pub move_at-requires : goal.move_at-requires
 move_at-requires c =
-    let placed = c.in-Ok.ensures in
+    let placed = c.in-Ok.ensures.placing in
     subst (λ b. c.in-Ok.place < length b.moves) (sym c.basis-in-Ok.ensures.value)
     (placed_within c.args.ledger.now.basis c.settle_place.new.self.basis c.orient.new.self placed.pushed (kept (goal.at.move_at-requires c).After-basis-in-Ok) c.in-Ok.place placed.at_end)
 
 pub insert-requires-clause-columns : goal.insert-requires-clause-columns
 insert-requires-clause-columns c =
-    let placed = c.in-Ok.ensures in
+    let placed = c.in-Ok.ensures.placing in
     let m = c.move_at.result.now in
     subst (λ leads. All (λ (lead : List ℤ). length lead ≡ length m.entries) leads) (sym c.requires.leads)
     (placed_columns c.args.ledger.now.basis c.settle_place.new.self.basis c.orient.new.self placed.pushed (kept (goal.at.insert-requires-clause-columns c).After-basis-in-Ok) c.in-Ok.place m placed.at_end
@@ -50,24 +50,24 @@ insert-requires-clause-columns c =
 
 pub insert-requires-clause-room : goal.insert-requires-clause-room
 insert-requires-clause-room c =
-    let placed = c.in-Ok.ensures in
+    let placed = c.in-Ok.ensures.placing in
     subst (λ (leads : List (List ℤ)). length leads + 1 < 2 ^ 32) (sym c.requires.leads)
     (placed_room c.args.ledger.now.basis c.settle_place.new.self.basis c.orient.new.self placed.pushed (kept (goal.at.insert-requires-clause-room c).After-basis-in-Ok))
 
 pub unreachable-requires : goal.unreachable-requires
 unreachable-requires c =
-    let (less, count, given, same) = (rw c.in-Err-Behind.field-0-is at c.in-Err-Behind.ensures) in
+    let (less, count, given, same) = (rw c.in-Err-Behind.field-0-is at c.in-Err-Behind.ensures.placing) in
     omega (arith, less, c.len-front.ensures.value ∙ ap (λ b. length b.moves) c.basis-2.ensures.value)
 
 pub returns-in-Ok-clause-goes_on : goal.returns-in-Ok-clause-goes_on
 returns-in-Ok-clause-goes_on c =
     let asked = c.requires.remainder in
-    let placed = placed_unclaimed c.args.ledger.now c.basis.ensures.kept c.settle_place.new.self asked.pair asked.claims c.len-front.result c.in-Ok.place c.orient.new.self c.in-Ok.ensures in
+    let placed = placed_unclaimed c.args.ledger.now c.basis.ensures.kept c.settle_place.new.self asked.pair asked.claims c.len-front.result c.in-Ok.place c.orient.new.self c.in-Ok.ensures.placing in
     on_ok_weaker c.insert.result (λ e. placed) c.insert.ensures.ok
 
 pub returns-in-Ok-clause-leads : goal.returns-in-Ok-clause-leads
 returns-in-Ok-clause-leads c =
-    let placed = c.in-Ok.ensures in
+    let placed = c.in-Ok.ensures.placing in
     let m = c.move_at.result.now in
     let leads = placed_leads c.args.ledger.now.basis c.settle_place.new.self.basis c.orient.new.self placed.pushed (kept (goal.at.returns-in-Ok-clause-leads c).After-basis-in-Ok) c.in-Ok.place m placed.at_end
     (ap (λ b. slice_get b.moves c.in-Ok.place) (sym c.basis-in-Ok.ensures.value) ∙ c.move_at.ensures.value) in
@@ -76,9 +76,9 @@ returns-in-Ok-clause-leads c =
 pub returns-in-Err-BasisFull-clause-goes_on : goal.returns-in-Err-BasisFull-clause-goes_on
 returns-in-Err-BasisFull-clause-goes_on c =
     full_unclaimed c.args.ledger.now c.basis.ensures.kept c.settle_place.new.self c.requires.remainder.pair c.requires.remainder.claims c.len-front.result c.orient.new.self
-    (rw c.in-Err-BasisFull.field-0-is at c.in-Err-BasisFull.ensures)
+    (rw c.in-Err-BasisFull.field-0-is at c.in-Err-BasisFull.ensures.placing)
 
 pub returns-in-Err-BasisFull-clause-leads : goal.returns-in-Err-BasisFull-clause-leads
 returns-in-Err-BasisFull-clause-leads c =
-    let (front, limit, halting, same) = (rw c.in-Err-BasisFull.field-0-is at c.in-Err-BasisFull.ensures) in
+    let (front, limit, halting, same) = (rw c.in-Err-BasisFull.field-0-is at c.in-Err-BasisFull.ensures.placing) in
     c.requires.leads ∙ sym (ap (λ b. leads_of b.moves) same)

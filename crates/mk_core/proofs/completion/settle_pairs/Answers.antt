@@ -1,7 +1,5 @@
-use Rattle.std.proofs.Common.{arith, subst, sym, ap, ◌∙◌}
-use Rattle.mk_move.specs.MoveLists.{BasisView}
-use Rattle.mk_reduce.specs.Leads.{leads_of}
-use Rattle.mk_core.specs.GoingOn.{ContinuesLedger}
+use Rattle.std.proofs.Common.{arith, subst, sym, ◌∙◌}
+use Rattle.mk_core.specs.GoingOn.{AreLeadsOnceMade, ContinuesLedger}
 use Rattle.mk_core.proofs.GoingOn.{GoesOn-here, GoesOn-then, fewer_left}
 use Rattle.mk_core.proofs.completion.settle_pairs.Goals as goal
 
@@ -10,7 +8,7 @@ next_pair-requires c = c.skip_disjoint.ensures.goes_on.unclaimed
 
 pub settle_pair-requires-clause-leads : goal.settle_pair-requires-clause-leads
 settle_pair-requires-clause-leads c =
-    c.loop-third_moves.invariant.leads ∙ sym (ap (λ (b : BasisView). leads_of b.moves) (c.in-Ok.ensures.pair.basis ∙ c.skip_disjoint.ensures.basis))
+    subst (AreLeadsOnceMade c.loop-third_moves.reducer.finder) (sym (c.in-Ok.ensures.pair.basis ∙ c.skip_disjoint.ensures.basis)) c.loop-third_moves.invariant.leads
 
 pub settle_pair-requires-clause-claimed : goal.settle_pair-requires-clause-claimed
 settle_pair-requires-clause-claimed c = c.in-Ok.ensures.pair.claims
@@ -19,7 +17,7 @@ pub loop-third_moves-init : goal.loop-third_moves-init
 loop-third_moves-init c = record {
   goes_on = GoesOn-here c.args.ledger.now;
   unclaimed = c.requires.unclaimed;
-  leads = c.requires.leads;
+  leads = subst (λ finder. AreLeadsOnceMade finder c.args.ledger.now.basis) (sym c.new-reducer.ensures) tt;
 }
 
 pub loop-third_moves-preserved : goal.loop-third_moves-preserved

@@ -3,7 +3,7 @@ use mir.Val.{Fits}
 use Rattle.std.proofs.lemmas.Bool.{cases_lt}
 use Rattle.mk_move.specs.MoveLists.{vectors_of}
 use Rattle.mk_move.proofs.LeadMasks.{not_dividing_by_masks}
-use Rattle.mk_reduce.proofs.Beginnings.{length-vectors_of}
+use Rattle.mk_move.proofs.MoveVectors.{length-vectors_of}
 use Rattle.mk_core.specs.Redundancy.{makes_redundant}
 use Rattle.mk_core.proofs.NeededMoves.{made_redundant, none_redundant, not_made}
 use Rattle.mk_core.proofs.dropping.is_redundant_at.Goals as goal

@@ -1,0 +1,5 @@
+pub mod Seats
+pub mod Faults
+pub mod Lines
+pub mod Turns
+pub mod Halting

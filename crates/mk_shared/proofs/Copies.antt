@@ -14,15 +14,21 @@ use Rattle.mk_reduce.specs.Works.{TheWork, WorkOf, rest_of, IsRest}
 use Rattle.mk_reduce.proofs.LongerBases.{WorkOf-append}
 use Rattle.mk_ledger.specs.Ledgers.{LedgerView}
 use Rattle.mk_ledger.specs.Settlings.{IsZeroClaim, IsCoprimeClaim, IsChainClaim, NotFull}
-use Rattle.mk_core.specs.Seats.{IsLonger, IsRestOfClaim}
-use Rattle.mk_core.proofs.Seats.{state_moves, first_seen, second_seen, overflow_whole, claim_of_basis, not_halted_yet, as_many}
+use Rattle.mk_core.specs.Remainders.{IsRestOfClaim}
+use Rattle.mk_core.specs.GrownBases.{IsLonger}
+use Rattle.mk_core.proofs.GrownBases.{state_moves, first_seen, second_seen, overflow_whole, claim_of_basis, not_halted_yet, as_many}
 use Rattle.mk_shared.specs.declared.state.Outset.{Outset}
 use Rattle.mk_shared.specs.LedgerTurns.{outset_of}
 use Rattle.mk_shared.specs.SharedSeats.{Sight, SeatView, IsSeat, HasClaim, HasCoprimeClaim, HasThirdMove, HasWorkDone, IsStop, IsTurnOf, TakesLedger}
 
 -- the turn that a seat has by its sight
 pub turn_of : (seat : SeatView) (x : LedgerView) (after : Sight) → TakesLedger x seat.sight after → IsTurnOf seat x
-turn_of seat x after h = record { legal = h.legal; knows = h.knows; known = h.known; told = λ answer (k, ledger, e, worker, a). h.knows.told k ledger e worker answer a }
+turn_of seat x after h = record {
+  legal = h.legal;
+  knows = h.knows;
+  known = h.known;
+  answers = λ answer (k, ledger, e, worker, a). h.knows.notices k ledger e worker answer a;
+}
 
 module _ (seat : SeatView) (agrees : IsSeat seat) (x : LedgerView) (turn : IsTurnOf seat x) where
   set_out : outset_of x ≡ agrees.outset
@@ -33,7 +39,8 @@ module _ (seat : SeatView) (agrees : IsSeat seat) (x : LedgerView) (turn : IsTur
     priority = ap (λ (o : Outset). o.job.start.priority) set_out ∙ sym agrees.priority;
     grading = ap (λ (o : Outset). o.job.start.grading) set_out ∙ sym agrees.grading;
     more = agrees.first_moves.0 ++ turn.knows.saw.0;
-    moves = turn.knows.saw.1 ∙ ap (λ ms. ms ++ turn.knows.saw.0) agrees.first_moves.1 ∙ append_assoc seat.copy.moves agrees.first_moves.0 turn.knows.saw.0;
+    moves = turn.knows.saw.1 ∙ ap (λ ms. ms ++ turn.knows.saw.0) agrees.first_moves.1
+        ∙ append_assoc seat.copy.moves agrees.first_moves.0 turn.knows.saw.0;
   }
 
   pub workers_here : x.state.workers ≡ seat.sight.seats
@@ -59,7 +66,8 @@ module _ (seat : SeatView) (agrees : IsSeat seat) (x : LedgerView) (turn : IsTur
   third_here : (third : ℕ) → third < length seat.copy.moves → move_at x.state.basis third ≡ move_at (vectors_of seat.copy.moves) third
   third_here third l =
       ap (λ moves. move_at moves third) (state_moves x turn.legal seat.copy copy_longer)
-      ∙ move_at-append (vectors_of seat.copy.moves) (vectors_of copy_longer.more) third (subst (λ k. third < k) (sym (length-map seat.copy.moves (λ m. m.entries))) l)
+      ∙ move_at-append (vectors_of seat.copy.moves) (vectors_of copy_longer.more) third
+      (subst (λ k. third < k) (sym (length-map seat.copy.moves (λ m. m.entries))) l)
 
   pub coprime_here : HasCoprimeClaim seat → IsCoprimeClaim x.state seat.sight.number
   coprime_here h = record {
@@ -79,7 +87,10 @@ module _ (seat : SeatView) (agrees : IsSeat seat) (x : LedgerView) (turn : IsTur
   }
 
   pub cause_here : (halt : Halt) → IsStop seat halt → IsHaltCause x.state seat.sight.number halt
-  cause_here (Overflow stop) h = (claimed_here stop.pair h.0.claimed, overflow_whole x turn.legal seat.copy copy_longer stop h.0.of_copy h.1)
+  cause_here (Overflow stop) h = (
+    claimed_here stop.pair h.0.claimed,
+    overflow_whole x turn.legal seat.copy copy_longer stop h.0.of_copy h.1,
+  )
   cause_here (Full pair) h = elim h [ ]
   cause_here Memory h = tt
 
@@ -105,7 +116,8 @@ module _ (seat : SeatView) (agrees : IsSeat seat) (x : LedgerView) (turn : IsTur
       pair = work.pair;
       claimed = claimed_here work.pair h.claimed;
       reduct = subst (λ moves. Reduct moves (difference moves work.pair) (zeros (length x.basis.grading))) (sym turn.legal.moves)
-          (subst (λ (rest : Option Weighed). Reduct (vectors_of x.basis.moves) (difference (vectors_of x.basis.moves) work.pair) (rest_of (length x.basis.grading) rest)) e whole_work.reduct);
+          (subst (λ (rest : Option Weighed). Reduct (vectors_of x.basis.moves) (difference (vectors_of x.basis.moves) work.pair)
+          (rest_of (length x.basis.grading) rest)) e whole_work.reduct);
     }
 
     -- what is left is normal for the whole basis, where it was reduced by as many moves
@@ -114,9 +126,11 @@ module _ (seat : SeatView) (agrees : IsSeat seat) (x : LedgerView) (turn : IsTur
       pair = work.pair;
       claimed = claimed_here work.pair h.claimed;
       rest = record {
-        reduct = subst (λ (rest : Option Weighed). Reduct (vectors_of x.basis.moves) (difference (vectors_of x.basis.moves) work.pair) (rest_of (length x.basis.grading) rest)) e whole_work.reduct;
+        reduct = subst (λ (rest : Option Weighed). Reduct (vectors_of x.basis.moves) (difference (vectors_of x.basis.moves) work.pair)
+            (rest_of (length x.basis.grading) rest)) e whole_work.reduct;
         rest = subst (λ (rest : Option Weighed). IfSome rest (IsRest x.basis.grading)) e whole_work.rest;
-        normal = subst (λ moves. IsNormal moves m.entries) whole (subst (λ (rest : Option Weighed). IfSome rest (λ r. IsNormal (take work.front (vectors_of seat.copy.moves)) r.entries)) e h.normal);
+        normal = subst (λ moves. IsNormal moves m.entries) whole (subst
+            (λ (rest : Option Weighed). IfSome rest (λ r. IsNormal (take work.front (vectors_of seat.copy.moves)) r.entries)) e h.normal);
       };
     }
       where
@@ -131,4 +145,5 @@ module _ (seat : SeatView) (agrees : IsSeat seat) (x : LedgerView) (turn : IsTur
         same = copy_longer.moves ∙ ap (λ ms. seat.copy.moves ++ ms) (none copy_longer.more count) ∙ append-nil seat.copy.moves
 
         whole : take work.front (vectors_of seat.copy.moves) ≡ vectors_of x.basis.moves
-        whole = take_all work.front (vectors_of seat.copy.moves) (omega (arith, l, ap length same, length-map seat.copy.moves (λ m. m.entries))) ∙ ap vectors_of (sym same)
+        whole = take_all work.front (vectors_of seat.copy.moves) (omega
+            (arith, l, ap length same, length-map seat.copy.moves (λ m. m.entries))) ∙ ap vectors_of (sym same)

@@ -6,14 +6,15 @@ use Rattle.mk_model.specs.CoreStates.{claim_of}
 use Rattle.mk_move.specs.Moves.{Weighed}
 use Rattle.mk_move.specs.MoveLists.{BasisView, vectors_of}
 use Rattle.mk_ledger.specs.Ledgers.{LedgerView}
-use Rattle.mk_core.specs.declared.phase.Job.{Job}
+use Rattle.mk_core.specs.Jobs.{JobView}
 use Rattle.mk_turn.specs.Turns.{AllJoined, Closes, beginning}
 use Rattle.mk_shared.specs.LedgerTurns.{ledger_meaning, outset_of}
 use Rattle.mk_shared.specs.SharedSeats.{Sight, AgreesWithCopy}
 use Rattle.mk_shared.specs.SharedAnswers.{ledger_begun}
 
 -- what the first seat knows agrees with a copy of the start
-pub first_agrees : (job : Job) (workers : ℕ) (x : LedgerView) → 1 ≤ workers → x.basis ≡ job.start → x.state.workers ≡ workers → AgreesWithCopy (beginning ledger_meaning x workers) job.start
+pub first_agrees : (job : JobView) (workers : ℕ) (x : LedgerView) → 1 ≤ workers → x.basis ≡ job.start → x.state.workers ≡ workers →
+    AgreesWithCopy (beginning ledger_meaning x workers) job.start
 first_agrees job workers x some basis count = record {
   no_turn = refl;
   not_raised = refl;
@@ -29,15 +30,17 @@ first_agrees job workers x some basis count = record {
 }
 
 -- the ledger that a job begins with has the job and its workers
-pub outset_begun : (job : Job) (workers : ℕ) → outset_of (ledger_begun job workers) ≡ record { job = job; workers = workers }
+pub outset_begun : (job : JobView) (workers : ℕ) → outset_of (ledger_begun job workers) ≡ record { job = job; workers = workers }
 outset_begun job workers =
-    let moves : take (length (vectors_of job.start.moves)) job.start.moves ≡ job.start.moves = take_all (length (vectors_of job.start.moves)) job.start.moves (omega (arith, length-map job.start.moves (λ (m : Weighed). m.entries))) in
+    let moves : take (length (vectors_of job.start.moves)) job.start.moves ≡ job.start.moves = take_all
+    (length (vectors_of job.start.moves)) job.start.moves (omega (arith, length-map job.start.moves (λ (m : Weighed). m.entries))) in
     rw moves refl
 
 -- once every seat was joined, no worker of the ledger has a claim
-pub none_claimed : (x : LedgerView) (v : Sight) → Closes ledger_meaning x v → v.number ≡ 0 → v.claim ≡ None → AllJoined v → (worker : ℕ) → claim_of x.state worker ≡ None
+pub none_claimed : (x : LedgerView) (v : Sight) → Closes ledger_meaning x v → v.number ≡ 0 → v.claim ≡ None → AllJoined v → (worker : ℕ) →
+    claim_of x.state worker ≡ None
 none_claimed x v closes first idle joined zero = ap (claim_of x.state) (sym first) ∙ closes.knows.claims ∙ idle
-none_claimed x v closes first idle joined (suc k) = ⊎_elim made (λ l. (closes.unmade (suc k) l).0) (cases_lt (suc k) v.made)
+none_claimed x v closes first idle joined (suc k) = ⊎_elim made (λ l. (closes.unmade (suc k) l).claim) (cases_lt (suc k) v.made)
   where
     made : suc k < v.made → claim_of x.state (suc k) ≡ None
-    made l = let (place, entry, at, e) = joined (suc k) (omega arith) l in ap (claim_of x.state) (sym e) ∙ (closes.joined place entry at).0
+    made l = let j = joined (suc k) (omega arith) l in ap (claim_of x.state) (sym j.number) ∙ (closes.joined j.place j.kept j.at).claim

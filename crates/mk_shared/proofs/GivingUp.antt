@@ -38,13 +38,17 @@ module _ (s t : CoreState) (before : HaveGivenUp s) where
   pub settle_given_up : {n : ℕ} {priority : List ℕ} {worker : ℕ} {way : Way} → IsSettling n priority s worker way t → HaveGivenUp t
   settle_given_up h = subst HaveGivenUp (sym h.changed) before
 
-  pub halt_given_up : {n : ℕ} {priority : List ℕ} → IsLegal n priority s → (worker : ℕ) (halt : Halt) → IsHalting s worker halt t → HaveGivenUp t
+  pub halt_given_up : {n : ℕ} {priority : List ℕ} → IsLegal n priority s → (worker : ℕ) (halt : Halt) → IsHalting s worker halt t →
+      HaveGivenUp t
   halt_given_up legal worker halt h = subst HaveGivenUp (sym h.changed) after
     where
-      after : (k : ℕ) (kept : Halt) → get_or (set s.halts worker (Some halt)) k None ≡ Some kept → kept ≢ Memory → 1 ≤ s.claims_given_up + given_up (claim_of s worker)
-      after k kept e other = go (written s.halts worker k halt kept (subst (λ l. worker < l) (sym legal.halts_by_workers) h.worker_within) e)
+      after : (k : ℕ) (kept : Halt) → get_or (set s.halts worker (Some halt)) k None ≡ Some kept → kept ≢ Memory →
+          1 ≤ s.claims_given_up + given_up (claim_of s worker)
+      after k kept e other = go (written s.halts worker k halt kept
+          (subst (λ l. worker < l) (sym legal.halts_by_workers) h.worker_within) e)
         where
-          go : ((k ≡ worker) × (halt ≡ kept)) ⊎ ((k ≡ worker → ⊥) × (get_or s.halts k None ≡ Some kept)) → 1 ≤ s.claims_given_up + given_up (claim_of s worker)
+          go : ((k ≡ worker) × (halt ≡ kept)) ⊎ ((k ≡ worker → ⊥) × (get_or s.halts k None ≡ Some kept)) →
+              1 ≤ s.claims_given_up + given_up (claim_of s worker)
           go (inl (f, g)) = omega (arith, gives_one_up s worker halt h.cause (λ m. other (sym g ∙ m)))
           go (inr (f, g)) = omega (arith, before k kept g other)
 
@@ -54,11 +58,15 @@ module _ (x y : LedgerView) (before : HaveGivenUp x.state) where
   chain_given_up worker third (Err chain.Memory) h = same_given_up x.state y.state before (ap (λ (l : LedgerView). l.state) h.1)
   chain_given_up worker third (Err (chain.Unsettled i j)) h = same_given_up x.state y.state before (ap (λ (l : LedgerView). l.state) h.1)
 
-  pub place_given_up : IsLedger x → (worker front : ℕ) (m : Weighed) (answer : Result ℕ PlaceFault) → IsPlacing x worker front m answer y → HaveGivenUp y.state
+  pub place_given_up : IsLedger x → (worker front : ℕ) (m : Weighed) (answer : Result ℕ PlaceFault) → IsPlacing x worker front m answer y →
+      HaveGivenUp y.state
   place_given_up legal worker front m (Ok at) h = settle_given_up x.state y.state before h.settling
-  place_given_up legal worker front m (Err (place.Memory given)) h = same_given_up x.state y.state before (ap (λ (l : LedgerView). l.state) h.3)
-  place_given_up legal worker front m (Err (place.Behind count given)) h = same_given_up x.state y.state before (ap (λ (l : LedgerView). l.state) h.3)
-  place_given_up legal worker front m (Err place.BasisFull) h = halt_given_up x.state y.state before legal.legal worker (Full h.2.pair) h.2.halting
+  place_given_up legal worker front m (Err (place.Memory given)) h = same_given_up x.state y.state before
+      (ap (λ (l : LedgerView). l.state) h.3)
+  place_given_up legal worker front m (Err (place.Behind count given)) h = same_given_up x.state y.state before
+      (ap (λ (l : LedgerView). l.state) h.3)
+  place_given_up legal worker front m (Err place.BasisFull) h = halt_given_up x.state y.state before legal.legal worker
+      (Full h.2.pair) h.2.halting
 
 -- where no worker has a halt, none gave up a claim
 pub none_given_up : (state : CoreState) → state.halts ≡ replicate state.workers None → HaveGivenUp state

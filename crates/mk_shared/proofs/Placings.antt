@@ -7,10 +7,11 @@ use Rattle.mk_move.specs.Moves.{Weighed, IsRowOriented}
 use Rattle.mk_move.specs.MoveLists.{vectors_of}
 use Rattle.mk_ledger.specs.Ledgers.{LedgerView, IsLedger}
 use Rattle.mk_ledger.specs.Settlings.{IsReductOfClaim}
-use Rattle.mk_core.specs.Seats.{IsRestOfClaim}
-use Rattle.mk_core.proofs.Seats.{as_many}
+use Rattle.mk_core.specs.Remainders.{IsRestOfClaim}
+use Rattle.mk_core.proofs.GrownBases.{as_many}
 
-pub rest_is_reduct : (x : LedgerView) (legal : IsLedger x) (worker front : ℕ) (rest m : Weighed) → front ≡ length x.basis.moves → IsRestOfClaim x worker rest
+pub rest_is_reduct : (x : LedgerView) (legal : IsLedger x) (worker front : ℕ) (rest m : Weighed) → front ≡ length x.basis.moves →
+    IsRestOfClaim x worker rest
     → IsRowOriented rest.entries x.basis.priority m.entries → IsReductOfClaim x.state worker front m.entries
 rest_is_reduct x legal worker front rest m e claim oriented = record {
   pair = claim.pair;

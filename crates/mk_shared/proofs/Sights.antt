@@ -22,7 +22,8 @@ use Rattle.mk_shared.specs.LedgerLaws.{distinct}
 use Rattle.mk_shared.specs.SharedSeats.{Sight, SeatView, AgreesWithCopy, after_look, after_claim, after_settle, after_place, after_halt}
 
 -- one more entry of the worker is its last one
-one_more_by : (journal : List Settle) (entry : Settle) (worker : ℕ) → entry.worker ≡ worker → entries_by worker (journal ++ entry ∷ []) ≡ entries_by worker journal ++ entry ∷ []
+one_more_by : (journal : List Settle) (entry : Settle) (worker : ℕ) → entry.worker ≡ worker →
+    entries_by worker (journal ++ entry ∷ []) ≡ entries_by worker journal ++ entry ∷ []
 one_more_by journal entry worker e =
     filter-append (λ (s : Settle). eqb s.worker worker) journal (entry ∷ []) ∙ rw (e, eq-eqb worker worker refl) refl
 
@@ -60,9 +61,36 @@ same_parts w z e =
     ∙ ap (λ a. record w { taken = z.taken; raised = z.raised; known = z.known; claim = a }) e.claim
     ∙ ap (λ a. record w { taken = z.taken; raised = z.raised; known = z.known; claim = z.claim; entries = a }) e.entries
     ∙ ap (λ a. record w { taken = z.taken; raised = z.raised; known = z.known; claim = z.claim; entries = z.entries; seen = a }) e.seen
-    ∙ ap (λ a. record w { taken = z.taken; raised = z.raised; known = z.known; claim = z.claim; entries = z.entries; seen = z.seen; notices = a }) e.notices
-    ∙ ap (λ a. record w { taken = z.taken; raised = z.raised; known = z.known; claim = z.claim; entries = z.entries; seen = z.seen; notices = z.notices; gives = a }) e.gives
-    ∙ ap (λ a. record w { taken = z.taken; raised = z.raised; known = z.known; claim = z.claim; entries = z.entries; seen = z.seen; notices = z.notices; gives = z.gives; last = a }) e.last
+    ∙ ap (λ a. record w {
+      taken = z.taken;
+      raised = z.raised;
+      known = z.known;
+      claim = z.claim;
+      entries = z.entries;
+      seen = z.seen;
+      notices = a;
+    }) e.notices
+    ∙ ap (λ a. record w {
+      taken = z.taken;
+      raised = z.raised;
+      known = z.known;
+      claim = z.claim;
+      entries = z.entries;
+      seen = z.seen;
+      notices = z.notices;
+      gives = a;
+    }) e.gives
+    ∙ ap (λ a. record w {
+      taken = z.taken;
+      raised = z.raised;
+      known = z.known;
+      claim = z.claim;
+      entries = z.entries;
+      seen = z.seen;
+      notices = z.notices;
+      gives = z.gives;
+      last = a;
+    }) e.last
 
 -- who gave, and then has the parts of z, is at z
 gave_is : (t w z : Sight) (x y : LedgerView) → Gave ledger_meaning t x y w → with_parts t z ≡ z → SameParts w z → w ≡ z
@@ -86,7 +114,8 @@ module _ (v : Sight) (idle : v.taken ≡ None) (down : v.raised ≡ false) (x : 
   module _ (legal : IsLedger x) (y : LedgerView) where
     -- an event changes the ledger
     pub apart_by : (event : Event) → Happens (length x.basis.grading) x.basis.priority x.state event y.state → x ≢ y
-    apart_by event h e = distinct (length x.basis.grading) x.basis.priority x.state y.state legal.legal event h (ap (λ (l : LedgerView). l.state) e)
+    apart_by event h e = distinct (length x.basis.grading) x.basis.priority x.state y.state legal.legal event h
+        (ap (λ (l : LedgerView). l.state) e)
 
     as_many : y.basis ≡ x.basis → length y.basis.moves ≡ length x.basis.moves
     as_many same = ap (λ (b : BasisView). length b.moves) same
@@ -94,7 +123,8 @@ module _ (v : Sight) (idle : v.taken ≡ None) (down : v.raised ≡ false) (x : 
     own_entries : y.state.journal ≡ x.state.journal → entries_by v.number y.state.journal ≡ v.entries
     own_entries e = ap (entries_by v.number) e ∙ knows.own
 
-    own_entry : (pair : Pair) (way : Way) → y.state.journal ≡ x.state.journal ++ settle v.number pair way ∷ [] → entries_by v.number y.state.journal ≡ v.entries ++ settle v.number pair way ∷ []
+    own_entry : (pair : Pair) (way : Way) → y.state.journal ≡ x.state.journal ++ settle v.number pair way ∷ [] →
+        entries_by v.number y.state.journal ≡ v.entries ++ settle v.number pair way ∷ []
     own_entry pair way e =
         ap (entries_by v.number) e
         ∙ one_more_by x.state.journal (settle v.number pair way) v.number refl
@@ -103,7 +133,8 @@ module _ (v : Sight) (idle : v.taken ≡ None) (down : v.raised ≡ false) (x : 
     same_state : (state : CoreState) → y ≡ record x { state = state } → (y.state ≡ state) × (y.basis ≡ x.basis)
     same_state state e = (ap (λ (l : LedgerView). l.state) e, ap (λ (l : LedgerView). l.basis) e)
 
-    pub claim_back : (pair : Pair) → IsClaim x.state v.number (with_claim x.state v.number pair) → y ≡ record x { state = with_claim x.state v.number pair }
+    pub claim_back : (pair : Pair) → IsClaim x.state v.number (with_claim x.state v.number pair) →
+        y ≡ record x { state = with_claim x.state v.number pair }
         → Gave ledger_meaning (took ledger_meaning x v) x y w → w ≡ after_claim x pair v
     claim_back pair h e g = let (state, same) = same_state (with_claim x.state v.number pair) e in
         let other : x ≢ y = apart_by (Claims v.number) (subst (IsClaim x.state v.number) (sym state) h) in
@@ -112,7 +143,8 @@ module _ (v : Sight) (idle : v.taken ≡ None) (down : v.raised ≡ false) (x : 
           raised = g.raised ∙ sym down;
           known = g.known ∙ as_many same;
           claim = g.claim ∙ ap (λ (s : CoreState). claim_of s v.number) state
-              ∙ get_or-set_same x.state.claims v.number (Some pair) None (subst (λ k. v.number < k) (sym legal.legal.claims_by_workers) h.worker_within);
+              ∙ get_or-set_same x.state.claims v.number (Some pair) None
+              (subst (λ k. v.number < k) (sym legal.legal.claims_by_workers) h.worker_within);
           entries = g.entries ∙ own_entries (ap (λ (s : CoreState). s.journal) state);
           seen = g.as_long other (omega (arith, as_many same));
           notices = g.changed other;
@@ -120,7 +152,8 @@ module _ (v : Sight) (idle : v.taken ≡ None) (down : v.raised ≡ false) (x : 
           last = g.last;
         })
 
-    pub settle_back : (pair : Pair) (way : Way) → v.claim ≡ Some pair → (h : IsSettling (length x.basis.grading) x.basis.priority x.state v.number way y.state) → y.basis ≡ x.basis
+    pub settle_back : (pair : Pair) (way : Way) → v.claim ≡ Some pair →
+        (h : IsSettling (length x.basis.grading) x.basis.priority x.state v.number way y.state) → y.basis ≡ x.basis
         → Gave ledger_meaning (took ledger_meaning x v) x y w → w ≡ after_settle x pair way v
     settle_back pair way mine h same g =
         let other : x ≢ y = apart_by (Settles v.number way) h in
@@ -130,7 +163,8 @@ module _ (v : Sight) (idle : v.taken ≡ None) (down : v.raised ≡ false) (x : 
           raised = g.raised ∙ sym down;
           known = g.known ∙ as_many same;
           claim = g.claim ∙ ap (λ (s : CoreState). claim_of s v.number) h.changed ∙ cleared_here x.state.claims v.number;
-          entries = g.entries ∙ own_entry pair way (ap (λ (s : CoreState). s.journal) h.changed ∙ ap (λ p. x.state.journal ++ settle v.number p way ∷ []) is);
+          entries = g.entries ∙ own_entry pair way (ap (λ (s : CoreState). s.journal) h.changed
+              ∙ ap (λ p. x.state.journal ++ settle v.number p way ∷ []) is);
           seen = g.as_long other (omega (arith, as_many same));
           notices = g.changed other;
           gives = g.gives;
@@ -154,18 +188,22 @@ module _ (v : Sight) (idle : v.taken ≡ None) (down : v.raised ≡ false) (x : 
         })
 
     pub place_back : (pair : Pair) (m : Weighed) → v.claim ≡ Some pair
-        → (h : IsSettling (length x.basis.grading) x.basis.priority x.state v.number (Place (length x.basis.moves)) y.state) → y.basis ≡ with_placed x.basis m
+        → (h : IsSettling (length x.basis.grading) x.basis.priority x.state v.number (Place (length x.basis.moves)) y.state) →
+        y.basis ≡ with_placed x.basis m
         → Gave ledger_meaning (raised ledger_meaning (took ledger_meaning x v)) x y w → w ≡ after_place x pair m v
     place_back pair m mine h pushed g =
         let other : x ≢ y = apart_by (Settles v.number (Place (length x.basis.moves))) h in
         let is : h.pair ≡ pair = same_Some h.pair pair (sym h.claimed ∙ knows.claims ∙ mine) in
-        let more : length y.basis.moves ≡ length x.basis.moves + 1 = ap (λ (b : BasisView). length b.moves) pushed ∙ length-append x.basis.moves (m ∷ []) in
+        let more : length y.basis.moves ≡ length x.basis.moves + 1 = ap (λ (b : BasisView). length b.moves) pushed
+        ∙ length-append x.basis.moves (m ∷ []) in
         gave_is (raised ledger_meaning (took ledger_meaning x v)) w (after_place x pair m v) x y g refl (record {
           taken = g.taken ∙ sym idle;
           raised = g.raised ∙ sym down;
           known = g.known ∙ more;
           claim = g.claim ∙ ap (λ (s : CoreState). claim_of s v.number) h.changed ∙ cleared_here x.state.claims v.number;
-          entries = g.entries ∙ own_entry pair (Place (length x.basis.moves)) (ap (λ (s : CoreState). s.journal) h.changed ∙ ap (λ p. x.state.journal ++ settle v.number p (Place (length x.basis.moves)) ∷ []) is);
+          entries = g.entries ∙ own_entry pair (Place (length x.basis.moves))
+              (ap (λ (s : CoreState). s.journal) h.changed ∙ ap (λ p. x.state.journal ++ settle v.number p
+              (Place (length x.basis.moves)) ∷ []) is);
           seen = g.longer (omega (arith, more)) ∙ ap (λ (b : BasisView). b.moves) pushed;
           notices = g.changed other;
           gives = g.gives;
@@ -174,9 +212,19 @@ module _ (v : Sight) (idle : v.taken ≡ None) (down : v.raised ≡ false) (x : 
 
 -- ---- what always holds of a seat, after a turn
 module _ (v : Sight) (copy : BasisView) (agrees : AgreesWithCopy v copy) where
-  pub agrees_then : (known : ℕ) (claim : Option Pair) (entries : List Settle) (seen : List Weighed) (notices : List LedgerView) (gives : ℕ) (last : Option LedgerView) (misses : ℕ)
+  pub agrees_then : (known : ℕ) (claim : Option Pair) (entries : List Settle) (seen : List Weighed) (notices : List LedgerView) (gives : ℕ)
+      (last : Option LedgerView) (misses : ℕ)
       → BeginsWith seen copy.moves → length copy.moves ≤ known
-      → AgreesWithCopy (record v { known = known; claim = claim; entries = entries; seen = seen; notices = notices; gives = gives; last = last; misses = misses }) copy
+      → AgreesWithCopy (record v {
+        known = known;
+        claim = claim;
+        entries = entries;
+        seen = seen;
+        notices = notices;
+        gives = gives;
+        last = last;
+        misses = misses;
+      }) copy
   agrees_then known claim entries seen notices gives last misses begins enough = record {
     no_turn = agrees.no_turn;
     not_raised = agrees.not_raised;
@@ -195,7 +243,8 @@ module _ (v : Sight) (copy : BasisView) (agrees : AgreesWithCopy v copy) where
     begins_then : (seen more : List Weighed) → seen ≡ x.basis.moves ++ more → BeginsWith seen copy.moves
     begins_then seen more e = (
       agrees.first_moves.0 ++ (knows.saw.0 ++ more),
-      e ∙ ap (λ ms. ms ++ more) (knows.saw.1 ∙ ap (λ ms. ms ++ knows.saw.0) agrees.first_moves.1) ∙ append_assoc (copy.moves ++ agrees.first_moves.0) knows.saw.0 more
+      e ∙ ap (λ ms. ms ++ more) (knows.saw.1 ∙ ap (λ ms. ms ++ knows.saw.0) agrees.first_moves.1)
+          ∙ append_assoc (copy.moves ++ agrees.first_moves.0) knows.saw.0 more
           ∙ append_assoc copy.moves agrees.first_moves.0 (knows.saw.0 ++ more),
     )
 
@@ -218,5 +267,6 @@ module _ (v : Sight) (copy : BasisView) (agrees : AgreesWithCopy v copy) where
     place_agrees pair m = agrees_then _ _ _ _ _ _ _ _ (begins_then (x.basis.moves ++ m ∷ []) (m ∷ []) refl) (le_trans enough (omega arith))
 
 -- a seat whose sight is another
-pub seat_now : (s : SeatView) (table : TableId) (w z : Sight) → table ≡ s.table → w ≡ z → record s { table = table; sight = w } ≡ record s { sight = z }
+pub seat_now : (s : SeatView) (table : TableId) (w z : Sight) → table ≡ s.table → w ≡ z →
+    record s { table = table; sight = w } ≡ record s { sight = z }
 seat_now s table w z e f = ap (λ (t : TableId). record s { table = t; sight = w }) e ∙ ap (λ (u : Sight). record s { sight = u }) f

@@ -9,7 +9,7 @@ use Rattle.mk_ledger.specs.declared.claims.Claim.{Claim}
 use Rattle.mk_ledger.specs.declared.claims.Claim.TheVariants.{Claimed, NotYet, Ended, OverBudget, Stopped}
 use Rattle.mk_ledger.specs.Claims.{AnswersClaim}
 use Rattle.mk_ledger.specs.Ledgers.{LedgerView, IsLedger}
-use Rattle.mk_core.specs.Seats.{IsLonger}
+use Rattle.mk_core.specs.GrownBases.{IsLonger}
 use Rattle.mk_turn.specs.Meanings.{Meaning}
 use Rattle.mk_shared.specs.declared.state.Outset.{Outset}
 
@@ -47,7 +47,8 @@ pub record IsEventOf (worker : ℕ) (before after : LedgerView) : Type 0 where
 abbrev pub IsHeldOrLeft : CoreState → ℕ → Pair → Type 0
 IsHeldOrLeft state worker pair =
     (claim_of state worker ≡ Some pair)
-    ⊎ (((entry : Settle) × Contains state.journal entry × (entry.worker ≡ worker) × (entry.pair ≡ pair)) ⊎ ((halt : Halt) × (halt_of state worker ≡ Some halt)))
+    ⊎ (((entry : Settle) × Contains state.journal entry × (entry.worker ≡ worker) × (entry.pair ≡ pair))
+    ⊎ ((halt : Halt) × (halt_of state worker ≡ Some halt)))
 
 -- what an answer says of each later state
 abbrev pub StaysTrue : Claim → CoreState → Type 0
@@ -59,9 +60,10 @@ StaysTrue (NotYet other i j) later = IsHeldOrLeft later other (pair_of i j)
 
 -- each answer that the first ledger gives, and that leaves it as it is, is true of the later one
 abbrev pub BearsOut : LedgerView → LedgerView → Type 0
-BearsOut told later = (worker : ℕ) (answer : Claim) → AnswersClaim told.state worker answer told.state → StaysTrue answer later.state
+BearsOut noticed later = (worker : ℕ) (answer : Claim) → AnswersClaim noticed.state worker answer noticed.state →
+    StaysTrue answer later.state
 
--- A ledger tells each worker what it is itself, and a later one bears that out where the answers that it gives are still true.
+-- Each worker's notice of a ledger is the ledger itself, and a later one bears it out where the answers that it gives are still true.
 abbrev pub ledger_meaning : Meaning LedgerView Pair Settle Weighed Outset LedgerView LedgerView
 ledger_meaning = record {
   len = λ ledger. length ledger.basis.moves;

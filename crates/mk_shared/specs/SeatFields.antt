@@ -10,7 +10,7 @@ seat_of s = record {
   table = s.turn.seat.table_id;
   sight = turn_view s.turn;
   copy = s.copy;
-  told_end = s.told_end;
+  nothing_left = s.nothing_left;
   halted = s.halted;
 }
 

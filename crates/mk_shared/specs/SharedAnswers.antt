@@ -14,9 +14,9 @@ use Rattle.mk_ledger.specs.Claims.{AnswersClaim}
 use Rattle.mk_ledger.specs.Halts.{halt_as}
 use Rattle.mk_ledger.specs.Ledgers.{LedgerView}
 use Rattle.mk_ledger.specs.Settlings.{IsFirstUnsettled, with_placed}
-use Rattle.mk_core.specs.Seats.{IsLonger}
+use Rattle.mk_core.specs.GrownBases.{IsLonger}
 use Rattle.mk_turn.specs.Turns.{beginning, missed, one_more, newcomer}
-use Rattle.mk_core.specs.declared.phase.Job.{Job}
+use Rattle.mk_core.specs.Jobs.{JobView}
 use Rattle.atomic_table.specs.Seated.{TableId}
 use Rattle.mk_shared.specs.declared.answers.Busy.{Busy}
 use Rattle.mk_shared.specs.declared.answers.RefreshFault.{RefreshFault}
@@ -31,17 +31,18 @@ use Rattle.mk_shared.specs.declared.answers.TryChainFault.{TryChainFault}
 use Rattle.mk_shared.specs.declared.answers.TryChainFault.TheVariants as chain
 use Rattle.mk_shared.specs.LedgerTurns.{ledger_meaning}
 use Rattle.mk_shared.specs.LedgerSteps.{state_claimed}
-use Rattle.mk_shared.specs.SharedSeats.{SeatView, IsTurnOf, WasTold, after_look, after_claim, after_settle, after_place, after_halt}
+use Rattle.mk_shared.specs.SharedSeats.{SeatView, IsTurnOf, WasAnswered, after_look, after_claim, after_settle, after_place, after_halt}
 
--- Its own step found that another seat had the turn, of which the word tells; so there are several seats. It counts one more miss.
+-- Its own step found that another seat had the turn, and read this word, one more than that seat's number; so there are several
+-- seats. It counts one more miss, and keeps the word.
 pub record IsMissed (before : SeatView) (word : ℕ) (after : SeatView) : Type 0 where
   pub held : 0 < word
   pub of_a_seat : word ≤ before.sight.seats
   pub of_another : word ≢ before.sight.number + 1
   pub several : 1 < before.sight.seats
-  pub changed : after ≡ record before { sight = missed ledger_meaning before.sight }
+  pub changed : after ≡ record before { sight = missed ledger_meaning word before.sight }
 
--- the same, where the word isn't told
+-- the same, where the answer doesn't carry the word
 abbrev pub IsBusy : SeatView → SeatView → Type 0
 IsBusy before after = (word : ℕ) × IsMissed before word after
 
@@ -70,13 +71,13 @@ NamesAnother seat answer = Unit {0}
 
 -- the seat after the answer
 abbrev pub seat_claimed : LedgerView → Claim → SeatView → SeatView
-seat_claimed ledger (claim.Claimed i j) seat = record seat { sight = after_claim ledger (pair_of i j) seat.sight; told_end = false }
-seat_claimed ledger answer seat = record seat { sight = after_look ledger seat.sight; told_end = leaves_nothing answer }
+seat_claimed ledger (claim.Claimed i j) seat = record seat { sight = after_claim ledger (pair_of i j) seat.sight; nothing_left = false }
+seat_claimed ledger answer seat = record seat { sight = after_look ledger seat.sight; nothing_left = leaves_nothing answer }
 
--- the seat was told the answer, or the answer is a pair
+-- the seat had the answer, or the answer is a pair, which is its claim
 abbrev pub KeepsAnswer : SeatView → Claim → Type 0
 KeepsAnswer seat (claim.Claimed i j) = seat.sight.claim ≡ Some (pair_of i j)
-KeepsAnswer seat answer = WasTold seat.sight answer
+KeepsAnswer seat answer = WasAnswered seat.sight answer
 
 -- The answer is that of the ledger that the seat took, for its number.
 pub record IsClaimOf (before : SeatView) (answer : Claim) (after : SeatView) : Type 0 where
@@ -209,21 +210,21 @@ AnswersTryStop before halt (Err refused) after = IsMissed before refused.0.word 
 abbrev pub AnswersSplit : SeatView → Result SeatView SplitFault → SeatView → Type 0
 AnswersSplit before (Ok made) after =
     (before.sight.made < before.sight.seats) × (after ≡ record before { sight = one_more before.sight })
-    × (made ≡ record before { sight = newcomer before.sight; told_end = false; halted = false })
+    × (made ≡ record before { sight = newcomer before.sight; nothing_left = false; halted = false })
 AnswersSplit before (Err split.Memory) after = (before.sight.made < before.sight.seats) × (after ≡ before)
 AnswersSplit before (Err (split.Seats made)) after = (made ≡ before.sight.made) × (made ≡ before.sight.seats) × (after ≡ before)
 
 -- the ledger that a job begins with, for so many workers
-abbrev pub ledger_begun : Job → ℕ → LedgerView
+abbrev pub ledger_begun : JobView → ℕ → LedgerView
 ledger_begun job workers = record { basis = job.start; state = new_state (vectors_of job.start.moves) job.budget job.basis_limit workers }
 
 -- the first seat of a completion of the job by so many workers: it has a copy of the start, and has done nothing yet
-pub record IsFirstSeat (job : Job) (workers : ℕ) (table : TableId) (seat : SeatView) : Type 0 where
+pub record IsFirstSeat (job : JobView) (workers : ℕ) (table : TableId) (seat : SeatView) : Type 0 where
   pub table_of : seat.table ≡ table
   pub sight : seat.sight ≡ beginning ledger_meaning (ledger_begun job workers) workers
   pub outset : seat.sight.fixed ≡ Some (record { job = job; workers = workers })
   pub copy : seat.copy ≡ job.start
-  pub told_end : seat.told_end ≡ false
+  pub nothing_left : seat.nothing_left ≡ false
   pub halted : seat.halted ≡ false
 
 -- The copy has all moves of the basis; or, where memory ran out, more of them than before, or as many.

@@ -32,7 +32,7 @@ pub record SeatView : Type 0 where
   pub table : TableId
   pub sight : Sight
   pub copy : BasisView
-  pub told_end : Bool
+  pub nothing_left : Bool
   pub halted : Bool
 
 -- What always holds of what a seat knows and of its copy: it hasn't the turn, its copy has the first of the moves that it saw, with the
@@ -63,7 +63,8 @@ pub record HasClaim (seat : SeatView) (pair : Pair) : Type 0 where
 pub record HasCoprimeClaim (seat : SeatView) : Type 0 where
   pub pair : Pair
   pub claim : HasClaim seat pair
-  pub disjoint : AreDisjoint (lead (move_at (vectors_of seat.copy.moves) pair.first)) (lead (move_at (vectors_of seat.copy.moves) pair.second))
+  pub disjoint : AreDisjoint (lead (move_at (vectors_of seat.copy.moves) pair.first))
+      (lead (move_at (vectors_of seat.copy.moves) pair.second))
 
 -- a third move, whose lead divides the least common multiple of the leads of its claim
 pub record HasThirdMove (seat : SeatView) (third : ℕ) : Type 0 where
@@ -88,17 +89,18 @@ IsStop seat Memory = Unit {0}
 
 -- ---- one turn
 -- the answer of a ledger that the seat, or one that it joined, gave back unchanged
-abbrev pub WasTold : Sight → Claim → Type 0
-WasTold v answer =
-    (k : ℕ) × (ledger : LedgerView) × (get_elem? v.notices k ≡ some ledger) × (worker : ℕ) × AnswersClaim ledger.state worker answer ledger.state
+abbrev pub WasAnswered : Sight → Claim → Type 0
+WasAnswered v answer =
+    (k : ℕ) × (ledger : LedgerView) × (get_elem? v.notices k ≡ some ledger) × (worker : ℕ)
+    × AnswersClaim ledger.state worker answer ledger.state
 
 -- The ledger that a seat took: it is legal, what the seat knows is so, it has as many moves as the seat knows of, and each
--- answer that the seat was told is true of it.
+-- answer that the seat had is true of it.
 pub record IsTurnOf (seat : SeatView) (ledger : LedgerView) : Type 0 where
   pub legal : IsLedger ledger
   pub knows : Knows ledger_meaning ledger seat.sight
   pub known : seat.sight.known ≤ length ledger.basis.moves
-  pub told : (answer : Claim) → WasTold seat.sight answer → StaysTrue answer ledger.state
+  pub answers : (answer : Claim) → WasAnswered seat.sight answer → StaysTrue answer ledger.state
 
 -- The turn was free: this is the ledger, and the sight now has it.
 pub record TakesLedger (ledger : LedgerView) (before after : Sight) : Type 0 where
@@ -107,12 +109,12 @@ pub record TakesLedger (ledger : LedgerView) (before after : Sight) : Type 0 whe
   pub known : before.known ≤ length ledger.basis.moves
   pub taken : after ≡ took ledger_meaning ledger before
 
--- another seat had the turn, of which the word tells
+-- another seat had the turn: the word that was read is one more than its number
 pub record MissesTurn (word : ℕ) (before after : Sight) : Type 0 where
   pub held : 0 < word
   pub of_a_seat : word ≤ before.seats
   pub of_another : word ≢ before.number + 1
-  pub missed_once : after ≡ missed ledger_meaning before
+  pub missed_once : after ≡ missed ledger_meaning word before
 
 -- the ledger was given back unchanged
 abbrev pub after_look : LedgerView → Sight → Sight

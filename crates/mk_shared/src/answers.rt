@@ -13,22 +13,25 @@ pub enum SplitFault {
     Seats { made: u32 },
 }
 
-/// Why a copy isn't refreshed or a claim isn't settled: want of memory, or another seat had the turn.
+/// Why a copy isn't refreshed or a claim isn't settled: want of memory, or another seat had the
+/// turn.
 #[derive(Clone, Copy, Debug, Drop, PartialEq, Eq)]
 pub enum RefreshFault {
     Memory,
     Busy,
 }
 
-/// How a claim was settled by the work on it: nothing was left, or what was left is the move of this place.
+/// How a claim was settled by the work on it: nothing was left, or what was left is the move of
+/// this place.
 #[derive(Clone, Copy, Debug, Drop, PartialEq, Eq)]
 pub enum SettledBy {
     Zero,
     Placed { place: u32 },
 }
 
-/// Why a claim isn't settled by the work on it: want of memory; another seat had the turn; the basis has more moves than the
-/// work was reduced by, so many; or it has its limit of moves, and the worker halts for it.
+/// Why a claim isn't settled by the work on it: want of memory; another seat had the turn; the
+/// basis has more moves than the work was reduced by, so many; or it has its limit of moves, and
+/// the worker halts for it.
 #[derive(Clone, Copy, Debug, Drop, PartialEq, Eq)]
 pub enum SettleFault {
     Memory,
@@ -37,8 +40,8 @@ pub enum SettleFault {
     BasisFull,
 }
 
-/// Why a claim isn't settled through a third move: want of memory; another seat had the turn; or the pair of one of its places
-/// and the third, the lesser place first, isn't settled.
+/// Why a claim isn't settled through a third move: want of memory; another seat had the turn; or
+/// the pair of one of its places and the third, the lesser place first, isn't settled.
 #[derive(Clone, Copy, Debug, Drop, PartialEq, Eq)]
 pub enum TryChainFault {
     Memory,

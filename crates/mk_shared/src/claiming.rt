@@ -1,8 +1,9 @@
 //! Claims, and the copies of the basis.
 ghost use Rattle.std.specs.Prelude.{◌≡◌, Some, None};
 ghost use Rattle.mk_model.specs.CoreStates.{Pair};
-ghost use Rattle.mk_turn.specs.Seats.{failed_word};
-ghost use Rattle.mk_shared.specs.SharedAnswers.{leaves_nothing, claimed_places, AnswersTryClaim, AnswersTryStop};
+ghost use Rattle.mk_turn.specs.Seats.{turn_view};
+ghost use Rattle.mk_shared.specs.SharedAnswers.{leaves_nothing, claimed_places, AnswersTryClaim};
+ghost use Rattle.mk_shared.specs.SharedAnswers.{AnswersTryStop};
 ghost use Rattle.mk_shared.specs.SharedSeats.{IsStop};
 ghost use Rattle.mk_ledger.specs.Halts.{halt_as};
 
@@ -26,12 +27,12 @@ impl SharedCompletion {
         let answer = shared.claim(seat.number);
         self.table.give(&mut seat.turn, shared);
         seat.claim = places_of(answer);
-        seat.told_end = says_end(answer);
+        seat.nothing_left = says_end(answer);
         Ok(answer)
     }
 
-    /// Halts for an overflow at the seat's claim, or for want of memory, and gives the claim up. Where another seat had the
-    /// turn, the halt is handed back.
+    /// Halts for an overflow at the seat's claim, or for want of memory, and gives the claim up.
+    /// Where another seat had the turn, the halt is handed back.
     pub fn try_stop(&self, seat: &mut Seat, halt: Halt) -> Result<(), (Busy, Halt)>
         requires table { seat.old.table ≡ self.now }
         requires claimed { (pair : Pair) × (seat.old.sight.claim ≡ Some pair) }
@@ -51,7 +52,7 @@ impl SharedCompletion {
 
 /// What a seat is answered whose last try found that another had the turn.
 fn busy(turn: &TurnSeat<SharedLedger>) -> Busy
-    ensures { result.word ≡ failed_word turn.now }
+    ensures { result.word ≡ (turn_view turn.now).last_word }
 {
     Busy {
         word: turn.last_word(),
@@ -68,7 +69,7 @@ fn places_of(answer: Claim) -> Option<(u32, u32)>
     }
 }
 
-/// Whether nothing is left for a worker that is told so.
+/// Whether nothing is left for a worker that has this answer.
 fn says_end(answer: Claim) -> bool
     ensures { result ≡ leaves_nothing answer }
 {

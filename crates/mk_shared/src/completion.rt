@@ -1,5 +1,6 @@
 //! A completion that is shared, and its seats.
-ghost use Rattle.std.specs.Prelude.{◌≡◌, ℕ, ◌<◌, ◌≤◌, length, IfOk, IfErr, IfSome, IfNone, None, Some};
+ghost use Rattle.std.specs.Prelude.{◌≡◌, ℕ, ◌<◌, ◌≤◌, length, IfOk, IfErr, IfSome, IfNone, None};
+ghost use Rattle.std.specs.Prelude.{Some};
 ghost use Rattle.mk_model.specs.CoreStates.{claim_of, new_state};
 ghost use Rattle.mk_move.specs.MoveLists.{vectors_of};
 ghost use Rattle.mk_core.specs.declared.phase.Stopped.TheVariants.{Memory};
@@ -7,8 +8,8 @@ ghost use Rattle.mk_turn.specs.Turns.{joining, AllJoined, Closes};
 ghost use Rattle.mk_ledger.specs.Ledgers.{IsLedger};
 ghost use Rattle.mk_shared.specs.GivenUp.{HaveGivenUp};
 ghost use Rattle.mk_shared.specs.LedgerTurns.{ledger_meaning, outset_of, StaysTrue};
-ghost use Rattle.mk_turn.specs.Seats.{turn_view, failed_word, IsSameTable};
-ghost use Rattle.mk_shared.specs.SharedSeats.{WasTold, TakesLedger, MissesTurn};
+ghost use Rattle.mk_turn.specs.Seats.{turn_view, IsSameTable};
+ghost use Rattle.mk_shared.specs.SharedSeats.{WasAnswered, TakesLedger, MissesTurn};
 ghost use Rattle.mk_ledger.specs.declared.claims.Claim.{Claim};
 ghost use Rattle.mk_shared.specs.SharedAnswers.{AnswersSplit, IsFirstSeat};
 
@@ -22,7 +23,8 @@ use mk_turn::{TurnSeat, TurnTable};
 use std::alloc::Global;
 use std::marker::Model;
 
-/// A completion on which many workers work, each by a seat of its own. It is seen as the table that its seats are of.
+/// A completion on which many workers work, each by a seat of its own. It is seen as the table that
+/// its seats are of.
 #[derive(Drop)]
 pub struct SharedCompletion {
     pub(crate) table: TurnTable<SharedLedger>,
@@ -37,11 +39,9 @@ impl Model for SharedCompletion {
 }
 
 impl SharedCompletion {
-    /// A completion of a job by so many workers, 1 to 64, and its first seat, which has number 0 and a copy of the start. The
-    /// basis limit is at most 65,536 and no less than the start.
+    /// A completion of a job by so many workers, 1 to 64, and its first seat, which has number 0
+    /// and a copy of the start.
     pub fn start(alloc: Global, job: Job, workers: u32) -> Result<(SharedCompletion, Seat), Stopped>
-        requires room { length job.start.moves ≤ job.basis_limit }
-        requires limit { job.basis_limit ≤ 65536 }
         requires some { 1 ≤ workers }
         requires few { workers ≤ 64 }
         ensures ok { IfOk result (λ pair. IsFirstSeat job workers pair.0 pair.1) }
@@ -58,8 +58,10 @@ impl SharedCompletion {
         requires table { turn.old.seat.table_id ≡ self.now }
         requires free { (turn_view turn.old).taken ≡ None }
         ensures table { IsSameTable turn.old turn.new }
-        ensures some { IfSome result (λ ledger. TakesLedger ledger (turn_view turn.old) (turn_view turn.new)) }
-        ensures none { IfNone result (MissesTurn (failed_word turn.new) (turn_view turn.old) (turn_view turn.new)) }
+        ensures some { IfSome result (λ ledger.
+            TakesLedger ledger (turn_view turn.old) (turn_view turn.new)) }
+        ensures none { IfNone result
+            (MissesTurn (turn_view turn.new).last_word (turn_view turn.old) (turn_view turn.new)) }
     {
         let shared = self.table.try_take(turn)?;
         // Whoever has its basis knows that it is legal.
@@ -89,7 +91,7 @@ impl SharedCompletion {
             copy,
             made: 0,
             workers: seat.workers,
-            told_end: false,
+            nothing_left: false,
             halted: false,
         })
     }
@@ -99,12 +101,14 @@ impl SharedCompletion {
         requires table { seat.old.table ≡ self.now }
         ensures copy { length seat.old.copy.moves ≤ result }
         ensures known { seat.old.sight.known ≤ result }
-        ensures seat { seat.new ≡ record seat.old { sight = record seat.old.sight { known = result } } }
+        ensures seat { seat.new
+            ≡ record seat.old { sight = record seat.old.sight { known = result } } }
     {
         self.table.length(&mut seat.turn) as u32
     }
 
-    /// Joins a seat without a claim into the first one, which keeps its entries and what it was told. It takes no turn.
+    /// Joins a seat without a claim into the first one, which keeps its entries and its notices. It
+    /// takes no turn.
     pub fn join(&self, seat: &mut Seat, other: Seat)
         requires table { seat.old.table ≡ self.now }
         requires other_table { other.table ≡ self.now }
@@ -124,7 +128,8 @@ impl SharedCompletion {
         ensures closes { Closes ledger_meaning result seat.sight }
         ensures kept { IsLedger result }
         ensures outset { Some (outset_of result) ≡ seat.sight.fixed }
-        ensures told { (answer : Claim) → WasTold seat.sight answer → StaysTrue answer result.state }
+        ensures answers { (answer : Claim) → WasAnswered seat.sight answer →
+            StaysTrue answer result.state }
         ensures given_up { HaveGivenUp result.state }
         ensures unclaimed { (worker : ℕ) → claim_of result.state worker ≡ None }
     {
@@ -137,8 +142,6 @@ impl SharedCompletion {
 
 /// The table of a new ledger, and its first seat.
 fn start_table(alloc: Global, job: Job, workers: u32) -> Result<(SharedCompletion, Seat), NoMemory>
-    requires room { length job.start.moves ≤ job.basis_limit }
-    requires limit { job.basis_limit ≤ 65536 }
     requires some { 1 ≤ workers }
     requires few { workers ≤ 64 }
     ensures { IfOk result (λ pair. IsFirstSeat job workers pair.0 pair.1) }
@@ -158,7 +161,7 @@ fn start_table(alloc: Global, job: Job, workers: u32) -> Result<(SharedCompletio
         copy,
         made: 1,
         workers,
-        told_end: false,
+        nothing_left: false,
         halted: false,
     };
     Ok((completion, seat))

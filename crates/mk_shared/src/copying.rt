@@ -1,6 +1,6 @@
 //! The seats' copies of the basis.
 ghost use Rattle.std.specs.Prelude.{◌≡◌};
-ghost use Rattle.mk_core.specs.Seats.{IsLonger};
+ghost use Rattle.mk_core.specs.GrownBases.{IsLonger};
 ghost use Rattle.mk_shared.specs.SharedAnswers.{AnswersTryRefresh, CopiesWhole};
 
 use crate::answers::RefreshFault;
@@ -10,7 +10,8 @@ use mk_model::NoMemory;
 use mk_move::Basis;
 
 impl SharedCompletion {
-    /// Copies what is new of the basis, and answers its length. Where memory runs out, the moves that were copied stay.
+    /// Copies what is new of the basis, and answers its length. Where memory runs out, the moves
+    /// that were copied stay.
     pub fn try_refresh(&self, seat: &mut Seat) -> Result<u32, RefreshFault>
         requires table { seat.old.table ≡ self.now }
         ensures { AnswersTryRefresh seat.old result seat.new }

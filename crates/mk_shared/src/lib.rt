@@ -1,4 +1,5 @@
-//! One completion that many workers share: each claims pairs of its ledger, settles them and halts, in turns and never waiting.
+//! One completion that many workers share: each claims pairs of its ledger, settles them and halts,
+//! in turns and never waiting.
 #![tactic(auto)]
 
 mod answers;

@@ -17,7 +17,7 @@ pub struct Seat {
     pub(crate) copy: Basis,
     pub(crate) made: u32,
     pub(crate) workers: u32,
-    pub(crate) told_end: bool,
+    pub(crate) nothing_left: bool,
     pub(crate) halted: bool,
 }
 
@@ -56,12 +56,12 @@ impl Seat {
         self.claim
     }
 
-    /// Whether nothing is left for it: the last claim that it was answered is Ended, OverBudget or Stopped, or one of its calls
-    /// kept a halt of its number.
+    /// Whether nothing is left for it: the last claim that it was answered is Ended, OverBudget or
+    /// Stopped, or one of its calls kept a halt of its number.
     pub fn is_done(&self) -> bool
-        ensures { result ≡ (self.now.told_end || self.now.halted) }
+        ensures { result ≡ (self.now.nothing_left || self.now.halted) }
     {
-        self.told_end || self.halted
+        self.nothing_left || self.halted
     }
 
     /// How often a try of it found that another seat had the turn, cut at 2^64 - 1.

@@ -1,8 +1,9 @@
 //! Settles of a seat's claim.
 ghost use Rattle.std.specs.Prelude.{◌≡◌, None, Some};
-ghost use Rattle.mk_core.specs.Seats.{IsRestOfClaim};
+ghost use Rattle.mk_core.specs.Remainders.{IsRestOfClaim};
 ghost use Rattle.mk_shared.specs.Placing.{PlacesCopy};
-ghost use Rattle.mk_shared.specs.SharedAnswers.{AnswersTryCoprime, AnswersTryChain, AnswersTrySettle};
+ghost use Rattle.mk_shared.specs.SharedAnswers.{AnswersTryCoprime, AnswersTryChain};
+ghost use Rattle.mk_shared.specs.SharedAnswers.{AnswersTrySettle};
 ghost use Rattle.mk_shared.specs.SharedSeats.{HasCoprimeClaim, HasThirdMove, HasWorkDone};
 
 use crate::answers::{RefreshFault, SettleFault, SettledBy, TryChainFault};
@@ -35,9 +36,10 @@ impl SharedCompletion {
         }
     }
 
-    /// Settles the seat's claim through a third move of its copy, whose lead divides the least common multiple of the two
-    /// leads. `Unsettled` names the pair of the first place and the third where it isn't settled, else that of the second
-    /// place and the third. (Sturmfels, chapter 1)
+    /// Settles the seat's claim through a third move of its copy, whose lead divides the least
+    /// common multiple of the two leads. `Unsettled` names the pair of the first place and the
+    /// third where it isn't settled, else that of the second place and the third. (Sturmfels,
+    /// chapter 1)
     pub fn try_settle_chain(&self, seat: &mut Seat, k: u32) -> Result<(), TryChainFault>
         requires table { seat.old.table ≡ self.now }
         requires third { HasThirdMove seat.old k }
@@ -58,8 +60,9 @@ impl SharedCompletion {
         }
     }
 
-    /// Settles the seat's claim by the work on it, which stays as it is: by nothing where nothing is left, else by a copy of
-    /// what is left, oriented, which is placed behind the last move. (Sturmfels, chapters 1 and 5)
+    /// Settles the seat's claim by the work on it, which stays as it is: by nothing where nothing
+    /// is left, else by a copy of what is left, oriented, which is placed behind the last move.
+    /// (Sturmfels, chapters 1 and 5)
     pub fn try_settle(&self, seat: &mut Seat, work: &Work) -> Result<SettledBy, SettleFault>
         requires table { seat.old.table ≡ self.now }
         requires work { HasWorkDone seat.old work.now }
@@ -92,7 +95,8 @@ impl SharedCompletion {
         }
     }
 
-    /// Settles the seat's claim by a copy of what is left of the work, unless the basis has more moves than reduced it.
+    /// Settles the seat's claim by a copy of what is left of the work, unless the basis has more
+    /// moves than reduced it.
     fn try_place(&self, seat: &mut Seat, work: &Work, rest: &Move) -> Result<SettledBy, SettleFault>
         requires table { seat.old.table ≡ self.now }
         requires work { HasWorkDone seat.old work.now }

@@ -6,8 +6,10 @@ ghost use Rattle.mk_model.specs.Events.{IsHaltCause};
 ghost use Rattle.mk_move.specs.MoveLists.{BelongsTo};
 ghost use Rattle.mk_ledger.specs.Halts.{halt_as};
 ghost use Rattle.mk_ledger.specs.Ledgers.{IsLedger};
-ghost use Rattle.mk_ledger.specs.Settlings.{IsCoprimeClaim, IsChainClaim, IsZeroClaim, IsReductOfClaim, NotFull};
-ghost use Rattle.mk_shared.specs.LedgerSteps.{ClaimsInTurn, SettlesInTurn, StaysInTurn, ChainsInTurn, PlacesInTurn, HaltsInTurn};
+ghost use Rattle.mk_ledger.specs.Settlings.{IsCoprimeClaim, IsChainClaim, IsZeroClaim};
+ghost use Rattle.mk_ledger.specs.Settlings.{IsReductOfClaim, NotFull};
+ghost use Rattle.mk_shared.specs.LedgerSteps.{ClaimsInTurn, SettlesInTurn, StaysInTurn};
+ghost use Rattle.mk_shared.specs.LedgerSteps.{ChainsInTurn, PlacesInTurn, HaltsInTurn};
 
 use mk_core::Job;
 use mk_ledger::{ChainFault, Claim, Halt, JournalEntry, Ledger, PlaceFault};
@@ -16,8 +18,8 @@ use mk_move::{Basis, Move};
 use mk_turn::TurnState;
 use std::marker::Model;
 
-/// A ledger on the heap, so that whoever takes the turn moves a pointer. It is seen as the ledger. A halt in it gave up a
-/// claim, unless it is one for want of memory.
+/// A ledger on the heap, so that whoever takes the turn moves a pointer. It is seen as the ledger.
+/// A halt in it gave up a claim, unless it is one for want of memory.
 #[derive(Drop)]
 pub struct SharedLedger {
     pub(crate) ledger: Box<Ledger>,
@@ -55,14 +57,15 @@ pub struct MadeEntry {
 
 impl Model for MadeEntry {
     ghost use Rattle.mk_model.specs.CoreStates.{Settle};
-    ghost use Rattle.mk_ledger.specs.Entries.{settle_of};
+    ghost use Rattle.mk_journal.specs.Entries.{settle_of};
 
     ghost Value = { Settle };
 
     ghost view = { λ m. settle_of m.entry };
 }
 
-/// What a shared completion sets out with: its job, and how many workers it has. No value of it is made.
+/// What a shared completion sets out with: its job, and how many workers it has. No value of it is
+/// made.
 pub struct Outset {
     pub job: Job,
     pub workers: u32,

@@ -7,7 +7,7 @@ use Rattle.mk_model.specs.CoreStates.Halt.{Overflow, Full, Memory}
 use Rattle.mk_move.specs.Moves.{Weighed}
 use Rattle.mk_move.specs.MoveLists.{vectors_of}
 use Rattle.mk_ledger.specs.Ledgers.{LedgerView, IsLedger}
-use Rattle.mk_core.specs.declared.phase.Job.{Job}
+use Rattle.mk_core.specs.Jobs.{JobView}
 use Rattle.mk_core.specs.declared.phase.Phase.{Phase}
 use Rattle.mk_core.specs.declared.phase.Stopped.{Stopped}
 use Rattle.mk_core.specs.declared.phase.Stopped.TheVariants as stopped
@@ -19,7 +19,7 @@ use Rattle.mk_shared.specs.GivenUp.{HaveGivenUp}
 use Rattle.mk_shared.specs.LedgerTurns.{outset_of}
 
 -- a halt for want of memory is handed on as such
-memory_handed : (job : Job) (result : Result Phase Stopped) → HandsOn Memory result → CompletesJob job result
+memory_handed : (job : JobView) (result : Result Phase Stopped) → HandsOn Memory result → CompletesJob job result
 memory_handed job (Err stopped.Memory) h = tt
 memory_handed job (Err (stopped.Overflow phase stop)) h = absurd h
 memory_handed job (Err (stopped.OverBudget phase)) h = absurd h
@@ -31,7 +31,7 @@ is_memory Memory = true
 is_memory (Overflow stop) = false
 is_memory (Full pair) = false
 
-module _ (job : Job) (workers : ℕ) (ledger : LedgerView) (kept : IsLedger ledger) (e : Some (outset_of ledger) ≡ Some (record { job = job; workers = workers })) where
+module _ (job : JobView) (workers : ℕ) (ledger : LedgerView) (kept : IsLedger ledger) (e : Some (outset_of ledger) ≡ Some (record { job = job; workers = workers })) where
   outset : outset_of ledger ≡ record { job = job; workers = workers }
   outset = same_Some (outset_of ledger) (record { job = job; workers = workers }) e
 

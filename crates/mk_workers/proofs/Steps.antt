@@ -1,5 +1,5 @@
 -- What the answers of a shared completion leave a worker at.
-use Rattle.std.proofs.Common.{◌≡◌, ◌↔◌, ℕ, ◌+◌, ◌<◌, ◌≤◌, Bool, true, false, true≢false, IsTrue, List, [], ◌∷◌, ◌++◌, length, length-append, take, slice_get, Option, None, Some, IfSome, ℤ, arith, ap, refl, sym, ◌∙◌, subst}
+use Rattle.std.proofs.Common.{◌≡◌, ℕ, ◌+◌, ◌<◌, ◌≤◌, Bool, true, false, true≢false, IsTrue, List, [], ◌∷◌, ◌++◌, length, length-append, take, slice_get, Option, None, Some, IfSome, ℤ, arith, ap, refl, sym, ◌∙◌, subst}
 use Rattle.std.proofs.lemmas.Option.{same_Some}
 use Rattle.std.proofs.lemmas.List.{length-map, length-take-le, take_all, take-append-le, get_or-set_same}
 use Rattle.mk_model.specs.CoreStates.{Pair, pair_of, CoreState, claim_of, move_at, IsPairOf}
@@ -17,7 +17,6 @@ use Rattle.mk_reduce.specs.Works.{TheWork, WorkOf, IsReduced}
 use Rattle.mk_reduce.specs.Stops.{overflow_of, IsDifferenceRefused, IsStepRefused}
 use Rattle.mk_reduce.specs.declared.stop.Stop.{Stop}
 use Rattle.mk_reduce.specs.declared.stop.Stop.TheVariants as Why
-use Rattle.mk_reduce.proofs.Beginnings.{vector_at}
 use Rattle.mk_criteria.specs.ThirdMoves.{IsLeastThirdMove}
 use Rattle.mk_reduce.proofs.LongerBases.{WorkOf-append}
 use Rattle.mk_ledger.specs.Claims.{IsGiven}
@@ -26,14 +25,14 @@ use Rattle.mk_ledger.specs.Ledgers.{LedgerView, IsLedger}
 use Rattle.mk_ledger.specs.declared.claims.Claim.TheVariants.{Claimed}
 use Rattle.mk_ledger.specs.declared.halt.Halt.{Halt}
 use Rattle.mk_ledger.specs.declared.halt.Halt.TheVariants as kept
-use Rattle.mk_core.specs.Seats.{IsLonger}
+use Rattle.mk_core.specs.GrownBases.{IsLonger}
 use Rattle.mk_core.proofs.Leads.{leads_more}
-use Rattle.mk_core.proofs.Seats.{longer_vectors}
+use Rattle.mk_core.proofs.GrownBases.{longer_vectors}
 use Rattle.mk_shared.specs.SharedSeats.{SeatView, HasClaim, HasCoprimeClaim, HasThirdMove, IsStop}
 use Rattle.mk_shared.specs.SharedAnswers.{IsClaimOf, IsMissed, IsRefreshed, IsRefreshedInPart}
-use Rattle.mk_workers.specs.declared.stage.Stage.{Stage}
-use Rattle.mk_workers.specs.declared.stage.Stage.TheVariants.{Fresh, Tests, Ready, Reduced, Stale, Stopping}
-use Rattle.mk_workers.specs.Stages.{IsSameSeat, IsAt, HasWork, AreFirstLeads, Steps, halt_for}
+use Rattle.mk_workers.specs.declared.stage.SeatStage.{SeatStage}
+use Rattle.mk_workers.specs.declared.stage.SeatStage.TheVariants.{Fresh, Tests, Ready, Reduced, Stale, Stopping}
+use Rattle.mk_workers.specs.Stages.{IsSameSeat, IsSeatAt, HasSeatWork, AreFirstLeads, Steps, halt_for}
 use Rattle.mk_workers.proofs.Stays.{stays, misses}
 
 -- ---- one step after another
@@ -47,7 +46,7 @@ same_then before middle after g h = record {
   joined = h.joined ∙ g.joined;
 }
 
-pub steps_then : (before middle after : SeatView) (leads : List (List ℤ)) (stage : Stage) → IsSameSeat before middle → Steps middle after leads stage → Steps before after leads stage
+pub steps_then : (before middle after : SeatView) (leads : List (List ℤ)) (stage : SeatStage) → IsSameSeat before middle → Steps middle after leads stage → Steps before after leads stage
 steps_then before middle after leads stage g h = record { same = same_then before middle after g h.same; first_leads = h.first_leads; at = h.at }
 
 -- ---- longer copies
@@ -100,7 +99,7 @@ module _ (before after : SeatView) (leads : List (List ℤ)) (first : AreFirstLe
     pub copied_leads : AreFirstLeads leads after.copy
     copied_leads = subst (λ (seat : SeatView). AreFirstLeads leads seat.copy) (sym h.changed) (first_longer leads before.copy h.ledger.basis first h.longer)
 
-    pub copies : (pair : Pair) → before.sight.claim ≡ Some pair → Steps before after leads (Tests 0 0)
+    pub copies : (pair : Pair) → before.sight.claim ≡ Some pair → Steps before after leads Tests
     copies pair claimed = record {
       same = copied_same;
       first_leads = copied_leads;
@@ -110,8 +109,8 @@ module _ (before after : SeatView) (leads : List (List ℤ)) (first : AreFirstLe
       );
     }
 
-    pub has_work : (work : TheWork) → HasWork before work → HasWork after work
-    has_work work w = subst (λ seat. HasWork seat work) (sym h.changed) (record {
+    pub has_work : (work : TheWork) → HasSeatWork before work → HasSeatWork after work
+    has_work work w = subst (λ seat. HasSeatWork seat work) (sym h.changed) (record {
       claimed = w.claimed;
       common = common_longer before.copy h.ledger.basis work.pair h.longer w.done.pair w.common;
       done = WorkOf-append work before.copy h.ledger.basis h.longer.more h.longer.moves h.longer.grading w.done;
@@ -126,17 +125,17 @@ module _ (before after : SeatView) (leads : List (List ℤ)) (first : AreFirstLe
 
 -- ---- copies, after other steps
 module _ (before middle after : SeatView) (leads : List (List ℤ)) where
-  pub copies_then : (count : ℕ) → Steps before middle leads Fresh → IsRefreshed middle count after → Steps before after leads (Tests 0 0)
-  copies_then count s h = let (pair, claimed, ordered) = s.at in steps_then before middle after leads (Tests 0 0) s.same (copies middle after leads s.first_leads count h pair claimed)
+  pub copies_then : (count : ℕ) → Steps before middle leads Fresh → IsRefreshed middle count after → Steps before after leads Tests
+  copies_then count s h = let (pair, claimed, ordered) = s.at in steps_then before middle after leads Tests s.same (copies middle after leads s.first_leads count h pair claimed)
 
   pub copies_then_in_part : Steps before middle leads Fresh → IsRefreshedInPart middle after → Steps before after leads (Stopping kept.Memory)
   copies_then_in_part s h = let (pair, claimed, ordered) = s.at in steps_then before middle after leads (Stopping kept.Memory) s.same (copies_in_part middle after leads s.first_leads pair claimed h)
 
-  pub then_misses : (word : ℕ) (stage : Stage) → Steps before middle leads stage → IsMissed middle word after → Steps before after leads stage
+  pub then_misses : (word : ℕ) (stage : SeatStage) → Steps before middle leads stage → IsMissed middle word after → Steps before after leads stage
   then_misses word stage s h = steps_then before middle after leads stage s.same (misses middle after leads s.first_leads word stage h s.at)
 
 -- the copy has both moves of the claim
-pub has_copy : (seat : SeatView) (i j : ℕ) → IsAt seat Fresh → seat.sight.claim ≡ Some (pair_of i j) → j < length seat.copy.moves → IsAt seat (Tests 0 0)
+pub has_copy : (seat : SeatView) (i j : ℕ) → IsSeatAt seat Fresh → seat.sight.claim ≡ Some (pair_of i j) → j < length seat.copy.moves → IsSeatAt seat Tests
 has_copy seat i j (pair, claimed, ordered) e within = (
   pair_of i j,
   record {
@@ -149,12 +148,6 @@ has_copy seat i j (pair, claimed, ordered) e within = (
 )
 
 -- ---- tests
-pub disjoint_leads : (moves : List Weighed) (i j : ℕ) (a b : Weighed) (test : Bool) → slice_get moves i ≡ Some a → slice_get moves j ≡ Some b →
-    (IsTrue test ↔ AreDisjoint (lead a.entries) (lead b.entries)) → IsTrue test ↔ AreDisjoint (lead (move_at (vectors_of moves) i)) (lead (move_at (vectors_of moves) j))
-disjoint_leads moves i j a b test e f h =
-    subst (λ (x : List ℤ). IsTrue test ↔ AreDisjoint (lead x) (lead (move_at (vectors_of moves) j))) (sym (vector_at moves i a e))
-    (subst (λ (x : List ℤ). IsTrue test ↔ AreDisjoint (lead a.entries) (lead x)) (sym (vector_at moves j b f)) h)
-
 -- the claim whose places the code knows, and a copy of the copy
 module _ (seat : SeatView) (pair : Pair) (i j : ℕ) (copy : BasisView) (h : HasClaim seat pair) (e : seat.sight.claim ≡ Some (pair_of i j)) (f : copy ≡ seat.copy) where
   pub claim_known : HasClaim seat (pair_of i j)
@@ -180,7 +173,7 @@ module _ (seat : SeatView) (pair : Pair) (i j : ℕ) (copy : BasisView) (h : Has
     disjoint = subst (λ (b : BasisView). AreDisjoint (lead (move_at (vectors_of b.moves) i)) (lead (move_at (vectors_of b.moves) j))) f (h passes);
   }
 
-  pub is_ready : (test : Bool) → test ≡ false → (AreDisjoint (lead (move_at (vectors_of copy.moves) i)) (lead (move_at (vectors_of copy.moves) j)) → IsTrue test) → IsAt seat Ready
+  pub is_ready : (test : Bool) → test ≡ false → (AreDisjoint (lead (move_at (vectors_of copy.moves) i)) (lead (move_at (vectors_of copy.moves) j)) → IsTrue test) → IsSeatAt seat Ready
   is_ready test fails h = (
     pair_of i j,
     claim_known,
@@ -223,7 +216,7 @@ module _ (seat : SeatView) (leads : List (List ℤ)) (copy : BasisView) (pair : 
   common_here : HaveCommonColumn (vectors_of seat.copy.moves) (pair_of i j)
   common_here = common_known seat pair i j copy claim e f common
 
-  pub begins : (work : TheWork) → WorkOf work copy → work.pair ≡ pair_of i j → HasWork seat work
+  pub begins : (work : TheWork) → WorkOf work copy → work.pair ≡ pair_of i j → HasSeatWork seat work
   begins work done same = record {
     claimed = e ∙ ap Some (sym same);
     common = subst (HaveCommonColumn (vectors_of seat.copy.moves)) (sym same) common_here;
@@ -235,7 +228,7 @@ module _ (seat : SeatView) (leads : List (List ℤ)) (copy : BasisView) (pair : 
       (difference_stop seat (pair_of i j) here common_here stop (subst (λ (b : BasisView). IsDifferenceRefused b.moves (pair_of i j) stop) f refused)))
 
 -- the work is done by the whole copy, or refused
-module _ (seat : SeatView) (leads : List (List ℤ)) (copy : BasisView) (work after : TheWork) (h : HasWork seat work) (first : AreFirstLeads leads copy) (f : copy ≡ seat.copy) (e : after.pair ≡ work.pair)
+module _ (seat : SeatView) (leads : List (List ℤ)) (copy : BasisView) (work after : TheWork) (h : HasSeatWork seat work) (first : AreFirstLeads leads copy) (f : copy ≡ seat.copy) (e : after.pair ≡ work.pair)
     (done : WorkOf after copy) where
   claimed_after : seat.sight.claim ≡ Some after.pair
   claimed_after = h.claimed ∙ ap Some (sym e)

@@ -18,8 +18,6 @@ use std::thread::Threads;
 
 /// Completes the start of a job by 1 to 64 workers, each in a thread of its own where one can be made. Its answers are those of
 /// `complete_alone`, with the same causes. It may wait. (Sturmfels, chapters 1 and 12: Buchberger's algorithm for a lattice)
-///
-/// The start has at most `basis_limit` moves, and the limit is at most 65,536.
 pub fn complete_shared<G: Gate + Sync, R: Threads + Wait + Sync>(
     rt: &R,
     alloc: Global,
@@ -27,12 +25,11 @@ pub fn complete_shared<G: Gate + Sync, R: Threads + Wait + Sync>(
     workers: u32,
     gate: &G,
 ) -> Result<Completed, Stopped>
-    requires start { length job.start.moves ≤ job.basis_limit }
-    requires limit { job.basis_limit ≤ 65536 }
     requires some { 1 ≤ workers }
     requires few { workers ≤ 64 }
     ensures answer { CompletesJob job result }
-    ensures over_budget { IfSome (phase_in result) (λ phase. AnswersOverBudget result ↔ IsUsedUp job phase) }
+    ensures over_budget { IfSome (phase_in result)
+        (λ phase. AnswersOverBudget result ↔ IsUsedUp job phase) }
 {
     let (shared, first) = SharedCompletion::start(alloc, job, workers)?;
     let first = work_together(rt, alloc, &shared, gate, first);
@@ -58,7 +55,8 @@ fn work_together<G: Gate + Sync, R: Threads + Wait + Sync>(
             let (mut first, other) = thread::join(
                 rt,
                 move || -> Seat
-                    requires { IsSync G.row × IsSync R.row × (first.table ≡ shared.now) × (first.sight.number ≡ 0) × (first.sight.claim ≡ None) }
+                    requires { IsSync G.row × IsSync R.row × (first.table ≡ shared.now)
+                        × (first.sight.number ≡ 0) × (first.sight.claim ≡ None) }
                     ensures { HasGathered first result }
                 { work_together(rt, alloc, shared, gate, first) },
                 move || -> Seat

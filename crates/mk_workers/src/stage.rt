@@ -8,14 +8,17 @@ use mk_ledger::{Halt, OverflowStop};
 use mk_move::Move;
 use mk_reduce::{Stop, Work};
 
-/// At what a worker is. `Idle`: it has no claim. `Fresh`: it has one. `Tests`: its copy has both moves, it looks for a third move
-/// from a place on, and has tried so many. `Ready`: its pair is to be reduced by its copy. `Reduced`: it has what is left.
-/// `Stale`: the basis has more moves than reduced it. `Stopping`: it is to halt. `Gone`: nothing is left for it.
+/// At what a worker is. `Idle`: it has no claim. `Fresh`: it has one. `Tests`: its copy has both moves. `Disjoint`: their leads have
+/// no column in common. `Thirds`: they have one, it looks for a third move from a place on, and has tried so many. `Ready`: its pair
+/// is to be reduced by its copy. `Reduced`: it has what is left. `Stale`: the basis has more moves than reduced it. `Stopping`: it is
+/// to halt. `Gone`: nothing is left for it.
 #[derive(Debug, Drop)]
-pub(crate) enum Stage {
+pub(crate) enum SeatStage {
     Idle,
     Fresh,
-    Tests { from: u32, tried: u32 },
+    Tests,
+    Disjoint,
+    Thirds { from: u32, tried: u32 },
     Ready,
     Reduced { work: Work },
     Stale { work: Work },

@@ -4,7 +4,7 @@ ghost use Rattle.std.specs.Prelude.{◌≡◌, None};
 ghost use Rattle.mk_workers.specs.Stages.{HasWorked};
 
 use crate::gate::Gate;
-use crate::stage::Stage;
+use crate::stage::SeatStage;
 use crate::worker::Worker;
 use mk_shared::{Seat, SharedCompletion};
 use std::alloc::Global;
@@ -29,10 +29,10 @@ pub fn worker_loop<G: Gate, R: Wait>(
     ensures { HasWorked seat result }
 {
     let mut worker = Worker::new(alloc, seat);
-    let mut stage = Stage::Idle;
+    let mut stage = SeatStage::Idle;
     for _ in rt.forever() {
         match worker.take_step(alloc, shared, gate, stage) {
-            Stage::Gone => return worker.seat,
+            SeatStage::Gone => return worker.seat,
             next => stage = next,
         }
     }

@@ -2,6 +2,7 @@ use Rattle.std.proofs.Common.{◌≡◌, None, replicate, sym, subst, ◌∙◌,
 use Rattle.mk_model.specs.CoreStates.{CoreState}
 use Rattle.mk_move.specs.MoveLists.{BasisView}
 use Rattle.mk_ledger.specs.Ledgers.{LedgerView}
+use Rattle.mk_core.specs.Jobs.{job_with}
 use Rattle.mk_turn.specs.Turns.{beginning}
 use Rattle.mk_shared.specs.LedgerTurns.{ledger_meaning}
 use Rattle.mk_shared.specs.SharedSeats.{AgreesWithCopy}
@@ -19,8 +20,10 @@ invariant_of-seat c =
     let agrees : AgreesWithCopy (beginning ledger_meaning x c.args.workers) c.in_ok-copy.copy =
     subst (λ (l : LedgerView). AgreesWithCopy (beginning ledger_meaning l c.args.workers) c.in_ok-copy.copy) (sym same)
     (subst (λ (b : BasisView). AgreesWithCopy (beginning ledger_meaning ledger c.args.workers) b) (sym c.in_ok-copy.ensures)
-    (first_agrees c.args.job c.args.workers ledger c.requires.some c.in_ok-ledger.ensures.basis (ap (λ (s : CoreState). s.workers) c.in_ok-ledger.ensures.state))) in
-    fields_by _ (beginning ledger_meaning x c.args.workers) c.in_ok-table.ensures.1 (record { agrees = agrees; number = refl; claim = refl; made = refl; workers = refl })
+    (first_agrees (job_with c.job.inside.start c.job.inside.budget c.job.inside.basis_limit)
+    c.args.workers ledger c.requires.some c.in_ok-ledger.ensures.basis (ap (λ (s : CoreState). s.workers) c.in_ok-ledger.ensures.state))) in
+    fields_by _ (beginning ledger_meaning x c.args.workers) c.in_ok-table.ensures.view
+    (record { agrees = agrees; number = refl; claim = refl; made = refl; workers = refl })
 
 pub invariant_of-shared : goal.invariant_of-shared
 invariant_of-shared c =

@@ -1,5 +1,5 @@
 use Rattle.std.proofs.Common.{◌≡◌, length}
-use Rattle.mk_core.specs.Seats.{IsLonger}
+use Rattle.mk_core.specs.GrownBases.{IsLonger}
 use Rattle.mk_shared.proofs.copying.copy_new.Given as goal
 
 -- the copy goes on from what it was, has the moves before the place, and the basis goes on from it

@@ -12,7 +12,8 @@ use Rattle.mk_shared.proofs.settling.place_copy.Goals.{After-orient}
 oriented : (c : After-orient) → IsRowOriented c.args.rest.now.entries c.args.shared.now.basis.priority c.orient.new.self.entries
 oriented c =
     subst (λ (r : Weighed). IsRowOriented r.entries c.args.shared.now.basis.priority c.orient.new.self.entries) c.in-Ok.ensures
-    (subst (λ p. IsRowOriented c.in-Ok.copy.entries p c.orient.new.self.entries) (c.priority.ensures ∙ ap (λ (b : BasisView). b.priority) c.basis-2.ensures.value) c.orient.ensures.entries)
+    (subst (λ p. IsRowOriented c.in-Ok.copy.entries p c.orient.new.self.entries)
+    (c.priority.ensures ∙ ap (λ (b : BasisView). b.priority) c.basis-2.ensures.value) c.orient.ensures.entries)
 
 whole : (c : After-orient) → c.len-front.result ≡ length c.args.shared.now.basis.moves
 whole c = c.len-front.ensures.value ∙ ap (λ (b : BasisView). length b.moves) c.basis.ensures.value
@@ -20,7 +21,8 @@ whole c = c.len-front.ensures.value ∙ ap (λ (b : BasisView). length b.moves) 
 pub settle_place-requires-clause-reduct : goal.settle_place-requires-clause-reduct
 settle_place-requires-clause-reduct c =
     let at = (goal.at.settle_place-requires-clause-reduct c).After-orient in
-    rest_is_reduct c.args.shared.now c.basis.ensures.kept c.args.worker c.len-front.result c.args.rest.now c.orient.new.self (whole at) c.requires (oriented at)
+    rest_is_reduct c.args.shared.now c.basis.ensures.kept c.args.worker c.len-front.result c.args.rest.now c.orient.new.self
+    (whole at) c.requires (oriented at)
 
 pub settle_place-requires-clause-belongs : goal.settle_place-requires-clause-belongs
 settle_place-requires-clause-belongs c =

@@ -9,9 +9,13 @@ use Rattle.mk_shared.proofs.FirstAndLast.{none_claimed}
 use Rattle.mk_shared.proofs.completion.SharedCompletion.close.Goals as goal
 
 pub close-requires-clause-first : goal.close-requires-clause-first
-close-requires-clause-first c =
-    let e = sym c.seat.view_is in
-    (ap (λ (b : SeatView). b.sight.number) (sym e) ∙ c.requires.first, c.seat.invariant.seat.no_turn, subst (λ (b : SeatView). AllJoined b.sight) e c.requires.joined)
+close-requires-clause-first c = ap (λ (b : SeatView). b.sight.number) c.seat.view_is ∙ c.requires.first
+
+pub close-requires-clause-away : goal.close-requires-clause-away
+close-requires-clause-away c = c.seat.invariant.seat.no_turn
+
+pub close-requires-clause-joined : goal.close-requires-clause-joined
+close-requires-clause-joined c = subst (λ (b : SeatView). AllJoined b.sight) (sym c.seat.view_is) c.requires.joined
 
 pub returns-clause-unclaimed : goal.returns-clause-unclaimed
 returns-clause-unclaimed c =
@@ -19,7 +23,8 @@ returns-clause-unclaimed c =
     let e = c.seat.view_is in
     let same = c.into_inner-ledger.ensures ∙ c.into_inner.view_is in
     subst (λ (x : LedgerView). (worker : ℕ) → claim_of x.state worker ≡ None) (sym same)
-    (none_claimed c.close.result v c.close.ensures (ap (λ (b : SeatView). b.sight.number) e ∙ c.requires.first) (ap (λ (b : SeatView). b.sight.claim) e ∙ c.requires.idle)
+    (none_claimed c.close.result v c.close.ensures (ap (λ (b : SeatView). b.sight.number) e ∙ c.requires.first)
+    (ap (λ (b : SeatView). b.sight.claim) e ∙ c.requires.idle)
     (subst (λ (b : SeatView). AllJoined b.sight) (sym e) c.requires.joined))
 
 pub returns-clause-given_up : goal.returns-clause-given_up

@@ -15,7 +15,8 @@ settle_zero-settled-requires c =
     let s = seat_of c.seat.inside in
     let x = c.in-Some.shared in
     subst (IsZeroClaim (length x.basis.grading) x.state) (sym c.seat.invariant.number)
-    (zero_here s c.seat.invariant.seat x (turn_of s x _ c.in-Some.ensures.some) c.args.work.now (subst (λ (b : SeatView). HasWorkDone b c.args.work.now) (sym c.seat.view_is) c.requires.work) c.requires.none)
+    (zero_here s c.seat.invariant.seat x (turn_of s x _ c.in-Some.ensures.some) c.args.work.now
+    (subst (λ (b : SeatView). HasWorkDone b c.args.work.now) (sym c.seat.view_is) c.requires.work) c.requires.none)
 
 pub returns-in-Ok : goal.returns-in-Ok
 returns-in-Ok c =
@@ -24,7 +25,15 @@ returns-in-Ok c =
     let x = c.in-Some.shared in
     let y = c.settle_zero-settled.new.self in
     let work = (subst (λ (b : SeatView). HasWorkDone b c.args.work.now) (sym c.seat.view_is) c.requires.work) in
-    let h : Turned s t (turn_view c.take.new.turn) x y = record { fields = c.seat.invariant; takes = c.in-Some.ensures.some; gave = c.give.ensures.view; table = c.give.ensures.table ∙ c.take.ensures.table; number = refl; made = refl; workers = refl } in (
+    let h : Turned s t (turn_view c.take.new.turn) x y = record {
+      fields = c.seat.invariant;
+      takes = c.in-Some.ensures.some;
+      gave = c.give.ensures.view;
+      table = c.give.ensures.table ∙ c.take.ensures.table;
+      number = refl;
+      made = refl;
+      workers = refl;
+    } in (
       c.requires.none,
       subst (λ (b : SeatView). IsSettledTurn b Zero (seat_of t)) c.seat.view_is
           (settled_turn s t (turn_view c.take.new.turn) x y h refl Zero c.in-Ok.ensures.ok c.args.work.now.pair work.claimed refl refl refl
@@ -37,5 +46,13 @@ invariant_of-seat-in-Err c =
     let t = record s { turn = c.give.new.seat } in
     let x = c.in-Some.shared in
     let y = c.settle_zero-settled.new.self in
-    let h : Turned s t (turn_view c.take.new.turn) x y = record { fields = c.seat.invariant; takes = c.in-Some.ensures.some; gave = c.give.ensures.view; table = c.give.ensures.table ∙ c.take.ensures.table; number = refl; made = refl; workers = refl } in
+    let h : Turned s t (turn_view c.take.new.turn) x y = record {
+      fields = c.seat.invariant;
+      takes = c.in-Some.ensures.some;
+      gave = c.give.ensures.view;
+      table = c.give.ensures.table ∙ c.take.ensures.table;
+      number = refl;
+      made = refl;
+      workers = refl;
+    } in
     (looked s t (turn_view c.take.new.turn) x y h c.in-Err.ensures.err.1 refl refl).fields

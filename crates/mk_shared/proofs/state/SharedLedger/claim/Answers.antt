@@ -18,4 +18,5 @@ invariant_of-self c =
     let x = c.self.inside.ledger.value in
     let y = c.claim-answer.new.self in
     claim_given_up x.state y.state c.self.invariant c.args.worker c.claim-answer.result
-    (subst (λ (l : LedgerView). AnswersClaim l.state c.args.worker c.claim-answer.result y.state) c.deref_mut.ensures.value c.claim-answer.ensures.answered)
+    (subst (λ (l : LedgerView). AnswersClaim l.state c.args.worker c.claim-answer.result y.state)
+    c.deref_mut.ensures.value c.claim-answer.ensures.answered)

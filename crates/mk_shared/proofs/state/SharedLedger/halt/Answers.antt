@@ -20,4 +20,5 @@ invariant_of-self c =
     let y = c.halt.new.self in
     let kept : IsLedger x = subst IsLedger (sym c.self.view_is) c.basis.ensures.kept in
     halt_given_up x.state y.state c.self.invariant kept.legal c.args.worker (halt_as c.args.halt)
-    (subst (λ (l : LedgerView). IsHalting l.state c.args.worker (halt_as c.args.halt) y.state) c.deref_mut.ensures.value c.halt.ensures.halting)
+    (subst (λ (l : LedgerView). IsHalting l.state c.args.worker (halt_as c.args.halt) y.state)
+    c.deref_mut.ensures.value c.halt.ensures.halting)

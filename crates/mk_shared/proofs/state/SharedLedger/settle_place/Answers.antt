@@ -10,11 +10,14 @@ returns c =
     let e = c.deref_mut.ensures.value ∙ c.self.view_is in let x = c.args.self.now in
     let y = c.settle_place-placed.new.self in
     places_in_turn x y c.basis.ensures.kept c.basis-2.ensures.kept c.args.worker c.args.front c.args.remainder c.settle_place-placed.result
-    (subst (λ (l : LedgerView). IsPlacing l c.args.worker c.args.front c.args.remainder c.settle_place-placed.result y) e c.settle_place-placed.ensures)
+    (subst (λ (l : LedgerView). IsPlacing l c.args.worker c.args.front c.args.remainder c.settle_place-placed.result y)
+    e c.settle_place-placed.ensures.placing)
 
 pub invariant_of-self : goal.invariant_of-self
 invariant_of-self c =
     let x = c.self.inside.ledger.value in
     let y = c.settle_place-placed.new.self in
-    place_given_up x y c.self.invariant (subst IsLedger (sym c.self.view_is) c.basis.ensures.kept) c.args.worker c.args.front c.args.remainder c.settle_place-placed.result
-    (subst (λ (l : LedgerView). IsPlacing l c.args.worker c.args.front c.args.remainder c.settle_place-placed.result y) c.deref_mut.ensures.value c.settle_place-placed.ensures)
+    place_given_up x y c.self.invariant (subst IsLedger (sym c.self.view_is) c.basis.ensures.kept)
+    c.args.worker c.args.front c.args.remainder c.settle_place-placed.result
+    (subst (λ (l : LedgerView). IsPlacing l c.args.worker c.args.front c.args.remainder c.settle_place-placed.result y)
+    c.deref_mut.ensures.value c.settle_place-placed.ensures.placing)

@@ -11,7 +11,8 @@ returns-clause-ok c =
     let e = c.deref_mut.ensures.value ∙ c.self.view_is in let x = c.args.self.now in
     let y = c.settle_zero.new.self in
     settles_in_turn x y c.basis.ensures.kept c.basis-2.ensures.kept c.args.worker Zero
-    (subst (λ (l : LedgerView). IsSettling (length l.basis.grading) l.basis.priority l.state c.args.worker Zero y.state) e c.in_ok-settle_zero.ensures.ok)
+    (subst (λ (l : LedgerView). IsSettling (length l.basis.grading) l.basis.priority l.state c.args.worker Zero y.state)
+    e c.in_ok-settle_zero.ensures.ok)
     (subst (λ (l : LedgerView). y.basis ≡ l.basis) e c.in_ok-settle_zero.ensures.basis)
 
 pub invariant_of-self : goal.invariant_of-self
@@ -23,4 +24,5 @@ pub invariant_of-self-2 : goal.invariant_of-self-2
 invariant_of-self-2 c =
     let y = c.settle_zero.new.self in
     settle_given_up c.self.inside.ledger.value.state y.state c.self.invariant
-    (subst (λ (l : LedgerView). IsSettling (length l.basis.grading) l.basis.priority l.state c.args.worker Zero y.state) c.deref_mut.ensures.value c.in_ok-settle_zero.ensures.ok)
+    (subst (λ (l : LedgerView). IsSettling (length l.basis.grading) l.basis.priority l.state c.args.worker Zero y.state)
+    c.deref_mut.ensures.value c.in_ok-settle_zero.ensures.ok)

@@ -1,5 +1,5 @@
-use Rattle.mk_workers.specs.declared.stage.Stage.TheVariants.{Idle}
-use Rattle.mk_workers.proofs.Stays.{misses, waits, is_told}
+use Rattle.mk_workers.specs.declared.stage.SeatStage.TheVariants.{Idle}
+use Rattle.mk_workers.proofs.Stays.{misses, waits, has_nothing_left}
 use Rattle.mk_workers.proofs.Steps.{claims}
 use Rattle.mk_workers.proofs.worker.Worker.claim_next.Goals as goal
 
@@ -10,17 +10,17 @@ returns-in-Ok-Claimed c =
 pub returns-in-Ok-Ended : goal.returns-in-Ok-Ended
 returns-in-Ok-Ended c =
     let h = rw c.in-Ok-Ended.field-0-is at c.in-Ok-Ended.ensures in
-    is_told c.args.self.now.seat c.try_claim.new.seat c.args.self.now.finder c.requires.leads h.ledger h.changed c.requires.stage
+    has_nothing_left c.args.self.now.seat c.try_claim.new.seat c.args.self.now.finder c.requires.leads h.ledger h.changed c.requires.stage
 
 pub returns-in-Ok-OverBudget : goal.returns-in-Ok-OverBudget
 returns-in-Ok-OverBudget c =
     let h = rw c.in-Ok-OverBudget.field-0-is at c.in-Ok-OverBudget.ensures in
-    is_told c.args.self.now.seat c.try_claim.new.seat c.args.self.now.finder c.requires.leads h.ledger h.changed c.requires.stage
+    has_nothing_left c.args.self.now.seat c.try_claim.new.seat c.args.self.now.finder c.requires.leads h.ledger h.changed c.requires.stage
 
 pub returns-in-Ok-Stopped : goal.returns-in-Ok-Stopped
 returns-in-Ok-Stopped c =
     let h = rw c.in-Ok-Stopped.field-0-is at c.in-Ok-Stopped.ensures in
-    is_told c.args.self.now.seat c.try_claim.new.seat c.args.self.now.finder c.requires.leads h.ledger h.changed c.requires.stage
+    has_nothing_left c.args.self.now.seat c.try_claim.new.seat c.args.self.now.finder c.requires.leads h.ledger h.changed c.requires.stage
 
 pub returns-in-Ok-NotYet : goal.returns-in-Ok-NotYet
 returns-in-Ok-NotYet c =

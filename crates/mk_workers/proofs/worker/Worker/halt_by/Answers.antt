@@ -2,7 +2,7 @@ use Rattle.std.proofs.Common.{sym, subst}
 use Rattle.mk_ledger.specs.Halts.{halt_as}
 use Rattle.mk_ledger.specs.declared.halt.Halt.{Halt}
 use Rattle.mk_workers.specs.Stages.{Steps}
-use Rattle.mk_workers.specs.declared.stage.Stage.TheVariants.{Stopping}
+use Rattle.mk_workers.specs.declared.stage.SeatStage.TheVariants.{Stopping}
 use Rattle.mk_workers.proofs.Stays.{misses, halts}
 use Rattle.mk_workers.proofs.worker.Worker.halt_by.Goals as goal
 

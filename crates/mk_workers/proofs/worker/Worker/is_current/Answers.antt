@@ -1,6 +1,6 @@
 use Rattle.std.proofs.Common.{◌<◌, length, true≢false, arith, ap, sym}
 use Rattle.mk_move.specs.MoveLists.{BasisView}
-use Rattle.mk_workers.specs.declared.stage.Stage.TheVariants.{Fresh, Tests}
+use Rattle.mk_workers.specs.declared.stage.SeatStage.TheVariants.{Fresh, Tests}
 use Rattle.mk_workers.proofs.Stays.{stays, reads}
 use Rattle.mk_workers.proofs.Steps.{has_copy}
 use Rattle.mk_workers.proofs.worker.Worker.is_current.Goals as goal
@@ -18,5 +18,5 @@ returns c =
     let within : j < length seat.copy.moves = omega (arith, c.if-j-length.false, c.len-length.ensures.value, ap (λ (b : BasisView). length b.moves) c.basis.ensures.value) in
     record {
       stays = reads seat c.news.new.seat c.args.self.now.finder c.requires.leads c.news.result Fresh c.news.ensures.seat c.requires.stage;
-      copy = λ e. reads seat c.news.new.seat c.args.self.now.finder c.requires.leads c.news.result (Tests 0 0) c.news.ensures.seat (has_copy seat i j c.requires.stage c.claimed_places-j.ensures within);
+      copy = λ e. reads seat c.news.new.seat c.args.self.now.finder c.requires.leads c.news.result Tests c.news.ensures.seat (has_copy seat i j c.requires.stage c.claimed_places-j.ensures within);
     }

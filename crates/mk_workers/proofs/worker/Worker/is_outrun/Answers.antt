@@ -1,4 +1,4 @@
-use Rattle.mk_workers.specs.declared.stage.Stage.TheVariants.{Reduced}
+use Rattle.mk_workers.specs.declared.stage.SeatStage.TheVariants.{Reduced}
 use Rattle.mk_workers.proofs.Stays.{stays, reads}
 use Rattle.mk_workers.proofs.worker.Worker.is_outrun.Goals as goal
 

@@ -1,7 +1,7 @@
 use Rattle.std.proofs.Common.{subst, sym}
 use Rattle.mk_shared.specs.SharedSeats.{SeatView}
-use Rattle.mk_workers.specs.Stages.{HasWork, Steps}
-use Rattle.mk_workers.specs.declared.stage.Stage.TheVariants.{Stale}
+use Rattle.mk_workers.specs.Stages.{HasSeatWork, Steps}
+use Rattle.mk_workers.specs.declared.stage.SeatStage.TheVariants.{Stale}
 use Rattle.mk_workers.proofs.Stays.{misses}
 use Rattle.mk_workers.proofs.Steps.{steps_then, copied_same, copied_leads, copies_in_part, has_work}
 use Rattle.mk_workers.proofs.worker.Worker.reduce_again.Goals as goal
@@ -12,7 +12,7 @@ reduce_work-requires-clause-leads g c =
 
 pub reduce_work-requires-clause-work : goal.reduce_work-requires-clause-work
 reduce_work-requires-clause-work g c =
-    subst (λ (s : SeatView). HasWork s c.args.work) (sym c.reach.ensures.seat)
+    subst (λ (s : SeatView). HasSeatWork s c.args.work) (sym c.reach.ensures.seat)
     (has_work c.args.self.now.seat c.try_refresh.new.seat c.args.self.now.finder c.requires.leads c.in-Ok.field-0 c.in-Ok.ensures c.args.work c.requires.stage)
 
 pub returns-in-Ok : goal.returns-in-Ok

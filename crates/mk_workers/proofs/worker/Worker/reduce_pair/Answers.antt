@@ -1,6 +1,6 @@
 use Rattle.std.proofs.Common.{subst, sym, ◌∙◌, ap}
 use Rattle.mk_shared.specs.SharedSeats.{SeatView}
-use Rattle.mk_workers.specs.Stages.{HasWork, Steps}
+use Rattle.mk_workers.specs.Stages.{HasSeatWork, Steps}
 use Rattle.mk_workers.proofs.Steps.{places_ordered, second_within, begins, is_refused}
 use Rattle.mk_workers.proofs.worker.Worker.reduce_pair.Goals as goal
 
@@ -23,7 +23,7 @@ reduce_work-requires-clause-work g c =
     let (i, j) = c.claimed_places-i.result in
     let (pair, claim, common) = c.requires.stage in
     let f = c.basis.ensures.value ∙ ap (λ (s : SeatView). s.copy) c.reach.ensures.seat in
-    subst (λ (s : SeatView). HasWork s c.in-Ok.work) (sym c.reach.ensures.seat)
+    subst (λ (s : SeatView). HasSeatWork s c.in-Ok.work) (sym c.reach.ensures.seat)
     (begins c.args.self.now.seat c.args.self.now.finder c.basis.result.now pair i j claim common c.claimed_places-i.ensures f c.in-Ok.work c.in-Ok.ensures.work c.in-Ok.ensures.pair)
 
 pub returns-in-Ok : goal.returns-in-Ok

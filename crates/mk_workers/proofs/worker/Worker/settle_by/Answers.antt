@@ -1,5 +1,5 @@
 use Rattle.mk_model.specs.CoreStates.Way.{Zero}
-use Rattle.mk_workers.specs.declared.stage.Stage.TheVariants.{Reduced, Stale}
+use Rattle.mk_workers.specs.declared.stage.SeatStage.TheVariants.{Reduced, Stale}
 use Rattle.mk_workers.proofs.Stays.{misses, looks, settles, places, is_full, runs_out}
 use Rattle.mk_workers.proofs.worker.Worker.settle_by.Goals as goal
 

@@ -1,6 +1,6 @@
 -- What a finder of the leads of a basis finds.
-use Rattle.std.proofs.Common.{◌∷◌, ◌++◌, ◌+◌, take, ◌≡◌, ℕ, ◌<◌, List, [], length, get_or, slice_get, Some, ℤ, pos, All, arith, ap, sym, ◌∙◌, subst}
-use Rattle.std.proofs.lemmas.List.{take_more, map-append, length-map, get_or-map, get_or_default}
+use Rattle.std.proofs.Common.{◌≡◌, ℕ, ◌<◌, List, [], length, get_or, slice_get, Some, ℤ, pos, All, arith, ap, sym, ◌∙◌, subst}
+use Rattle.std.proofs.lemmas.List.{get_or-map, get_or_default}
 use Rattle.std.proofs.lemmas.List.Elements.{All-map, All-weaker, All-contains}
 use Rattle.std.proofs.lemmas.Option.{get_or_from_slice_get, slice_get_within}
 use Rattle.mk_model.specs.Lattices.{InLattice}
@@ -12,15 +12,14 @@ use Rattle.mk_model.proofs.VectorAlgebra.{length-positive_part}
 use Rattle.mk_move.specs.Moves.{Weighed}
 use Rattle.mk_move.specs.MoveLists.{BasisView, BelongsTo, vectors_of}
 use Rattle.mk_move.specs.Sides.{DividesAt}
+use Rattle.mk_move.proofs.MoveVectors.{vector_at, length-vectors_of}
 use Rattle.mk_reduce.specs.Leads.{leads_of}
+use Rattle.mk_reduce.proofs.LeadLists.{length-leads_of}
 use Rattle.mk_core.specs.SaturatedBases.{IsSaturated}
 use Rattle.mk_inter.specs.TailSteps.{HasTailReduced, IsTailStep, IsReducedFrom}
 use Rattle.mk_inter.proofs.LeastTails.{tail_reduced}
 use Rattle.mk_inter.proofs.Bases.{saturated_list}
-use Rattle.mk_inter.proofs.TailSteps.{vector_at, length-vectors_of, vector_member, has_lead}
-
-pub length-leads_of : (moves : List Weighed) → length (leads_of moves) ≡ length moves
-length-leads_of moves = length-map moves (λ m. lead m.entries)
+use Rattle.mk_inter.proofs.TailSteps.{vector_member, has_lead}
 
 -- the lead at a place
 pub lead_of_place : (moves : List Weighed) (k : ℕ) (d : List ℤ) → k < length moves → get_or (leads_of moves) k d ≡ lead (move_at (vectors_of moves) k)
@@ -32,12 +31,6 @@ pub leads_columns : (p : List ℕ) (w : List ℤ) (moves : List Weighed) (r : We
 leads_columns p w moves r each same =
     All-map (λ x. length x ≡ length r.entries) (λ (m : Weighed). lead m.entries) moves
     (All-weaker (BelongsTo p w) (λ m. length (lead m.entries) ≡ length r.entries) (λ m h. length-positive_part m.entries ∙ h.columns ∙ sym same) moves each)
-
--- one lead more
-pub leads_more : (moves : List Weighed) (k : ℕ) (m : Weighed) → slice_get moves k ≡ Some m → leads_of (take (k + 1) moves) ≡ leads_of (take k moves) ++ lead m.entries ∷ []
-leads_more moves k m at =
-    ap leads_of (take_more moves k m (slice_get_within moves k m at) ∙ ap (λ x. take k moves ++ x ∷ []) (get_or_from_slice_get moves k m m at))
-    ∙ map-append (λ (m : Weighed). lead m.entries) (take k moves) (m ∷ [])
 
 module _ (basis : BasisView) (s : IsSaturated basis) (index : ℕ) (of_list : index < length basis.moves) where
   pub begun : (m : Weighed) → slice_get basis.moves index ≡ Some m → BelongsTo basis.priority basis.grading m → HasTailReduced basis index m

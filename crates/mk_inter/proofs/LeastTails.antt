@@ -1,17 +1,16 @@
 -- Tails of a saturated list: where the tail of a move steps down, the lead stays, and at the end the move is one of the
 -- reduced basis.
-use Rattle.std.proofs.Common.{[], ◌∷◌, ◌*ℤ◌, ◌≡◌, inl, inr, ℕ, zero, suc, ◌≤◌, ◌<◌, List, length, ℤ, pos, ◌<ℤ◌, Contains, arith, ap, sym, ◌∙◌, subst, ⊎_elim}
+use Rattle.std.proofs.Common.{◌≡◌, ℕ, zero, suc, ◌≤◌, ◌<◌, List, length, ℤ, pos, ◌<ℤ◌, Contains, arith, ap, sym, ◌∙◌, subst, ⊎_elim}
 use Rattle.std.proofs.lemmas.Int.{ints}
 use borrow.Author.Differences.{up}
-use Rattle.mk_model.specs.Vectors.{add, subtract, scale, negative_part, positive_part, weight, IsPoint}
+use Rattle.mk_model.specs.Vectors.{add, subtract, scale, weight, IsPoint}
 use Rattle.mk_model.specs.Lattices.{lattice_of, InLattice, HasGrading}
 use Rattle.mk_model.specs.Orders.{IsBelow, IsOriented, standard, lead, tail}
 use Rattle.mk_model.specs.Bases.{IsMove}
 use Rattle.mk_model.specs.Reductions.{Divides, IsIrreducible}
 use Rattle.mk_model.specs.ReducedBases.{IsReducedMove}
-use Rattle.mk_model.proofs.Integers.{product_below}
-use Rattle.mk_model.proofs.VectorAlgebra.{lengths, columns, entries, same_vectors, parts, positive_part-scale, negative_part-scale}
-use Rattle.mk_model.proofs.OrderLaws.{IsBelow-subtract, IsBelow-transitive}
+use Rattle.mk_model.proofs.VectorAlgebra.{lengths, columns, same_vectors, parts, positive_part-scale}
+use Rattle.mk_model.proofs.OrderLaws.{IsBelow-subtract, IsBelow-transitive, IsOriented-scale}
 use Rattle.mk_model.proofs.LatticeLaws.{InLattice-scale}
 use Rattle.mk_model.proofs.MoveLaws.{IsMove-columns, IsMove-lead, IsMove-tail, IsMove-ends, IsMove-same_weight}
 use Rattle.mk_model.proofs.Fibres.{less_less, lead_of_difference, move_of_difference, same_fibre_back, same_fibre_append}
@@ -30,14 +29,9 @@ pub record HasLeadOf (n : ℕ) (rows : List (List ℤ)) (v r : List ℤ) : Type 
 abbrev pub tail_rank : ℕ → List ℤ → List ℤ → ℕ
 tail_rank n w r = rank (up (weight w (tail r))) (standard n) (tail r)
 
-IsBelow-scale : (p : List ℕ) (k : ℕ) (x y : List ℤ) → IsBelow p x y → IsBelow p (scale (pos (suc k)) x) (scale (pos (suc k)) y)
-IsBelow-scale [] k x y h = h
-IsBelow-scale (c ∷ p) k x y (inl h) = inl (simp entries (product_below k _ _ h))
-IsBelow-scale (c ∷ p) k x y (inr (e, h)) = inr (simp entries (ap (λ a. pos (suc k) *ℤ a) e), IsBelow-scale p k x y h)
-
-IsOriented-scale : (p : List ℕ) (k : ℕ) (m : List ℤ) → 1 ≤ k → IsOriented p m → IsOriented p (scale (pos k) m)
-IsOriented-scale p zero m l h = absurd (omega arith)
-IsOriented-scale p (suc k) m l h = rw (positive_part-scale, negative_part-scale) (IsBelow-scale p k (negative_part m) (positive_part m) h)
+oriented_times : (p : List ℕ) (k : ℕ) (m : List ℤ) → 1 ≤ k → IsOriented p m → IsOriented p (scale (pos k) m)
+oriented_times p zero m l h = absurd (omega arith)
+oriented_times p (suc k) m l h = IsOriented-scale p k m h
 
 -- the lead minus what is left of the tail
 stepped : (r m : List ℤ) → length m ≡ length r → subtract (lead r) (subtract (tail r) m) ≡ add r m
@@ -84,7 +78,7 @@ module _ {n : ℕ} {rows : List (List ℤ)} {w : List ℤ} {moves : List (List �
     rest_point = IsPoint-lower taken tail_point (omega (arith, columns_of_u)) (rw (positive_part-scale k u) d)
 
     rest_below : IsBelow (standard n) rest (tail r)
-    rest_below = IsBelow-subtract (standard n) (tail r) taken (IsOriented-scale (standard n) k u some (member_move s u i).oriented)
+    rest_below = IsBelow-subtract (standard n) (tail r) taken (oriented_times (standard n) k u some (member_move s u i).oriented)
 
     rest_in_fibre : InLattice n rows (subtract (tail r) rest)
     rest_in_fibre = subst (InLattice n rows) (sym (less_less (tail r) taken (omega (arith, tail_point.columns, columns_of_u)))) (InLattice-scale n rows (pos k) u (member_move s u i).in_lattice)

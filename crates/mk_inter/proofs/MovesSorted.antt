@@ -1,5 +1,5 @@
 -- The order of moves by their number of columns, then by move order, as a test that a sort takes.
-use Rattle.std.proofs.Common.{[], ◌≡◌, ◌⊎◌, ◌↔◌, inl, inr, ℕ, ◌≤◌, ◌<◌, Bool, false, ◌||◌, ◌&&◌, ◌==◌, nat_lt, List, length, ℤ, ◌<ℤ◌, arith, refl, sym, ◌∙◌, subst, ⊎_elim}
+use Rattle.std.proofs.Common.{[], ◌≡◌, ◌⊎◌, ◌↔◌, inl, inr, ℕ, ◌≤◌, ◌<◌, Bool, false, ◌||◌, ◌&&◌, ◌==◌, nat_lt, List, length, ℤ, arith, refl, sym, ◌∙◌, subst, ⊎_elim}
 use Rattle.std.specs.Bool.{Decides}
 use Rattle.std.specs.Cmp.{IsStrictWeakOrder}
 use Rattle.std.specs.Ordering.{int_eq, is_lt}
@@ -16,7 +16,7 @@ use Rattle.std.proofs.lemmas.List.Sorted.{sorted_far}
 use Rattle.mk_model.specs.Vectors.{weight}
 use Rattle.mk_model.specs.Orders.{standard, lead, tail, ComesBefore}
 use Rattle.mk_model.proofs.OrderLaws.{ComesBefore-asymmetric}
-use Rattle.mk_model.proofs.OrderTests.{is_below, Decides-is_below}
+use Rattle.mk_model.proofs.OrderTests.{is_below, Decides-is_below, Decides-lt_z}
 use Rattle.mk_model.proofs.MoveOrder.{EndsBefore, ComesBefore-transitive, ComesBefore-total}
 use Rattle.mk_move.specs.Moves.{Weighed, IsBefore}
 use Rattle.mk_inter.specs.TailSteps.{IsEarlier, NoneEarlier}
@@ -100,9 +100,6 @@ is_before n a b =
 
 abbrev pub is_earlier : Weighed → Weighed → Bool
 is_earlier a b = nat_lt (length a.entries) (length b.entries) || ((length a.entries == length b.entries) && is_before (length a.entries) a b)
-
-Decides-lt_z : (a b : ℤ) → Decides (lt_z a b) (a <ℤ b)
-Decides-lt_z a b = (λ e. grind (arith, ints), λ h. grind (arith, ints))
 
 Decides-nat_lt : (a b : ℕ) → Decides (nat_lt a b) (a < b)
 Decides-nat_lt a b = (λ e. grind (arith, nat_tests), λ h. grind (arith, nat_tests))

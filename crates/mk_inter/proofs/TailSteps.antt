@@ -1,9 +1,6 @@
 -- Steps on the tail of a move of a saturated basis.
 use Rattle.std.proofs.Common.{[], ◌≡◌, ℕ, ◌<◌, List, length, slice_get, Option, Some, None, Result, Ok, ℤ, pos, neg_ℤ, Contains, arith, ap, refl, sym, ◌∙◌, subst}
-use Rattle.std.proofs.lemmas.List.{length-map}
 use Rattle.std.proofs.lemmas.List.Elements.{Contains-get_or}
-use Rattle.std.proofs.lemmas.Option.{slice_get-map, get_or_from_slice_get}
-use Rattle.std.specs.Option.{option_map}
 use Rattle.mk_model.specs.Vectors.{entry, add, subtract, negate, scale}
 use Rattle.mk_model.specs.CoreStates.{move_at, pair_of, stop_at}
 use Rattle.mk_model.specs.Lattices.{InLattice}
@@ -20,19 +17,13 @@ use Rattle.mk_move.specs.MoveLists.{BasisView, vectors_of}
 use Rattle.mk_move.specs.Steps.{minus_times, TakesOff, IsOverflow}
 use Rattle.mk_move.specs.declared.steps.OverflowAt.{OverflowAt}
 use Rattle.mk_move.specs.declared.steps.StepFault.{StepFault}
+use Rattle.mk_move.proofs.MoveVectors.{vector_at, length-vectors_of}
 use Rattle.mk_core.specs.SaturatedBases.{IsSaturated}
 use Rattle.mk_inter.specs.Tails.{IsTailFault}
 use Rattle.mk_inter.specs.TailSteps.{HasTailReduced, IsTailStep, IsTimesAdded}
 use Rattle.mk_inter.specs.declared.tails.TailFault.TheVariants.{Overflow}
 use Rattle.mk_inter.proofs.LeastTails.{HasLeadOf, tail_rank, tail_falls, step_keeps_lead, step_below}
 use Rattle.mk_inter.proofs.Bases.{saturated_list}
-
-pub vector_at : (moves : List Weighed) (k : ℕ) (m : Weighed) → slice_get moves k ≡ Some m → move_at (vectors_of moves) k ≡ m.entries
-vector_at moves k m h =
-    get_or_from_slice_get (vectors_of moves) k m.entries [] (slice_get-map (λ (m : Weighed). m.entries) moves k ∙ ap (option_map (λ (m : Weighed). m.entries)) h)
-
-pub length-vectors_of : (moves : List Weighed) → length (vectors_of moves) ≡ length moves
-length-vectors_of moves = length-map moves (λ m. m.entries)
 
 pub vector_member : (moves : List Weighed) (k : ℕ) → k < length moves → Contains (vectors_of moves) (move_at (vectors_of moves) k)
 vector_member moves k l = Contains-get_or (vectors_of moves) k [] (omega (arith, l, length-vectors_of moves))

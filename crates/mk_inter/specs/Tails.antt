@@ -19,4 +19,5 @@ pub record IsReducedList (basis : BasisView) : Type 0 where
 abbrev pub IsTailFault : BasisView → TailFault → Type 0
 IsTailFault basis Memory = Unit {0}
 IsTailFault basis (Overflow index by operand at) =
-    IsTailOverflow (vectors_of basis.moves) index (stop_at (pair_of index index) (Some by) (Some operand.entries) at.column at.left at.times at.right)
+    IsTailOverflow (vectors_of basis.moves) index
+    (stop_at (pair_of index index) (Some by) (Some operand.entries) at.column at.left at.times at.right)

@@ -5,5 +5,5 @@ mod sorting;
 mod tail;
 mod tails;
 
-pub use mk_core::drop_redundant;
+pub use mk_core::{SaturatedBasis, drop_redundant};
 pub use tails::{ReducedBasis, TailFault, reduce_tails, reduce_tails_shared};

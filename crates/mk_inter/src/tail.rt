@@ -25,7 +25,8 @@ pub(crate) fn reduce_tail(
     requires saturated { IsSaturated basis.now }
     requires leads { finder.now ≡ leads_of basis.now.moves }
     requires of_list { index < length basis.now.moves }
-    ensures reduced { IfOk result (IsReducedFrom basis.now (move_at (vectors_of basis.now.moves) index)) }
+    ensures reduced { IfOk result
+        (IsReducedFrom basis.now (move_at (vectors_of basis.now.moves) index)) }
     ensures refused { IfErr result (IsTailFault basis.now) }
 {
     let mut rest = basis.move_at(index).try_copy()?;
@@ -46,7 +47,8 @@ fn tail_step(
     requires saturated { IsSaturated basis.now }
     requires step { IsTailStep basis.now index place rest }
     ensures reduced { IfOk result (HasTailReduced basis.now index) }
-    ensures falls { IfOk result (λ next. IsBelow (standard (length basis.now.grading)) (tail next.entries) (tail rest.entries)) }
+    ensures falls { IfOk result (λ next.
+        IsBelow (standard (length basis.now.grading)) (tail next.entries) (tail rest.entries)) }
     ensures refused { IfErr result (IsTailFault basis.now) }
 {
     let by = basis.move_at(place);

@@ -98,8 +98,11 @@ impl ReducedBasis {
 /// The reduced basis of the lattice: each tail of a move is replaced by the least vector of its fibre, and the moves ascend by
 /// move order. (Sturmfels, chapter 1: the reduced basis)
 pub fn reduce_tails(alloc: Global, basis: &SaturatedBasis) -> Result<ReducedBasis, TailFault>
-    ensures reduced { IfOk result (λ reduced. IsReducedBasis (lattice_spanned basis.now) (vectors_of reduced.moves)) }
-    ensures lattice { IfOk result (λ reduced. SameLattice (length basis.now.grading) (vectors_of basis.now.moves) (vectors_of reduced.moves)) }
+    ensures reduced { IfOk result (λ reduced.
+        IsReducedBasis (lattice_spanned basis.now) (vectors_of reduced.moves)) }
+    ensures lattice { IfOk result (λ reduced.
+        SameLattice (length basis.now.grading) (vectors_of basis.now.moves)
+        (vectors_of reduced.moves)) }
     ensures grading { IfOk result (λ reduced. reduced.grading ≡ basis.now.grading) }
     ensures kept { IfOk result IsReducedList }
     ensures refused { IfErr result (IsTailFault basis.now) }
@@ -117,8 +120,11 @@ pub fn reduce_tails_shared<R: Threads + Sync>(
     alloc: Global,
     basis: &SaturatedBasis,
 ) -> Result<ReducedBasis, TailFault>
-    ensures reduced { IfOk result (λ reduced. IsReducedBasis (lattice_spanned basis.now) (vectors_of reduced.moves)) }
-    ensures lattice { IfOk result (λ reduced. SameLattice (length basis.now.grading) (vectors_of basis.now.moves) (vectors_of reduced.moves)) }
+    ensures reduced { IfOk result (λ reduced.
+        IsReducedBasis (lattice_spanned basis.now) (vectors_of reduced.moves)) }
+    ensures lattice { IfOk result (λ reduced.
+        SameLattice (length basis.now.grading) (vectors_of basis.now.moves)
+        (vectors_of reduced.moves)) }
     ensures grading { IfOk result (λ reduced. reduced.grading ≡ basis.now.grading) }
     ensures kept { IfOk result IsReducedList }
     ensures refused { IfErr result (IsTailFault basis.now) }
@@ -133,8 +139,11 @@ pub fn reduce_tails_shared<R: Threads + Sync>(
 fn reduced_of(basis: &Basis, mut tails: Vec<Move>) -> Result<ReducedBasis, NoMemory>
     requires saturated { IsSaturated basis.now }
     requires tails { AllZip (IsReducedFrom basis.now) (vectors_of basis.now.moves) tails.items }
-    ensures reduced { IfOk result (λ reduced. IsReducedBasis (lattice_spanned basis.now) (vectors_of reduced.moves)) }
-    ensures lattice { IfOk result (λ reduced. SameLattice (length basis.now.grading) (vectors_of basis.now.moves) (vectors_of reduced.moves)) }
+    ensures reduced { IfOk result (λ reduced.
+        IsReducedBasis (lattice_spanned basis.now) (vectors_of reduced.moves)) }
+    ensures lattice { IfOk result (λ reduced.
+        SameLattice (length basis.now.grading) (vectors_of basis.now.moves)
+        (vectors_of reduced.moves)) }
     ensures grading { IfOk result (λ reduced. reduced.grading ≡ basis.now.grading) }
     ensures kept { IfOk result IsReducedList }
 {
@@ -147,7 +156,8 @@ fn reduced_of(basis: &Basis, mut tails: Vec<Move>) -> Result<ReducedBasis, NoMem
 fn all_tails(alloc: Global, basis: &Basis, finder: &LeadFinder) -> Result<Vec<Move>, TailFault>
     requires saturated { IsSaturated basis.now }
     requires leads { finder.now ≡ leads_of basis.now.moves }
-    ensures reduced { IfOk result (λ tails. AllZip (IsReducedFrom basis.now) (vectors_of basis.now.moves) tails.items) }
+    ensures reduced { IfOk result (λ tails.
+        AllZip (IsReducedFrom basis.now) (vectors_of basis.now.moves) tails.items) }
     ensures refused { IfErr result (IsTailFault basis.now) }
 {
     let mut tails = Vec::new(alloc);
@@ -167,7 +177,8 @@ fn shared_tails<R: Threads + Sync>(
 ) -> Result<Vec<Move>, TailFault>
     requires saturated { IsSaturated basis.now }
     requires leads { finder.now ≡ leads_of basis.now.moves }
-    ensures reduced { IfOk result (λ tails. AllZip (IsReducedFrom basis.now) (vectors_of basis.now.moves) tails.items) }
+    ensures reduced { IfOk result (λ tails.
+        AllZip (IsReducedFrom basis.now) (vectors_of basis.now.moves) tails.items) }
     ensures refused { IfErr result (IsTailFault basis.now) }
 {
     let tails: Result<Vec<Move>, TailFault> = (0..basis.len())
@@ -178,7 +189,9 @@ fn shared_tails<R: Threads + Sync>(
                 requires saturated { IsSaturated basis.now }
                 requires leads { finder.now ≡ leads_of basis.now.moves }
                 requires of_list { index < length basis.now.moves }
-                ensures reduced { IfOk result (IsReducedFrom basis.entry.now (move_at (vectors_of basis.entry.now.moves) index)) }
+                ensures reduced { IfOk result
+                    (IsReducedFrom basis.entry.now (move_at
+                    (vectors_of basis.entry.now.moves) index)) }
                 ensures refused { IfErr result (IsTailFault basis.entry.now) }
             { reduce_tail(alloc, basis, finder, index) },
         )
@@ -190,7 +203,7 @@ fn shared_tails<R: Threads + Sync>(
 fn basis_of(basis: &Basis, moves: Vec<Move>) -> Result<Basis, NoMemory>
     requires columns { length basis.now.priority ≡ length basis.now.grading }
     requires belongs { All (BelongsTo basis.now.priority basis.now.grading) moves.items }
-    requires few { length moves.items < 2 ^ 32 }
+    requires few_moves { length moves.items < 2 ^ 32 }
     ensures moves { IfOk result (λ made. made.moves ≡ moves.items) }
     ensures priority { IfOk result (λ made. made.priority ≡ basis.now.priority) }
     ensures grading { IfOk result (λ made. made.grading ≡ basis.now.grading) }

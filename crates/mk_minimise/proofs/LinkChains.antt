@@ -1,13 +1,9 @@
 -- What links leave of a link: nothing, or a link; and the links with that one more.
-use Rattle.std.proofs.Common.{◌≡◌, ◌≢◌, ◌⊎◌, inl, inr, ℕ, List, [], ◌∷◌, ◌++◌, length, ℤ, pos, true, false, Contains, All, arith, ap, refl, sym, ◌∙◌, subst, ⊎_elim}
-use Rattle.std.specs.List.{list_all}
-use Rattle.std.specs.Ordering.{int_eq}
+use Rattle.std.proofs.Common.{◌≡◌, ◌≢◌, ◌⊎◌, inl, inr, ℕ, List, [], ◌∷◌, ◌++◌, length, ℤ, pos, false, Contains, arith, ap, sym, ◌∙◌, subst, ⊎_elim}
 use Rattle.std.proofs.lemmas.Bool.{both_ways, cases_Bool}
-use Rattle.std.proofs.lemmas.Bool.Decides.{Decides-by_and, Decides-int_eq}
 use Rattle.std.proofs.lemmas.Int.{ints}
-use Rattle.std.proofs.lemmas.List.{get_or_default}
 use Rattle.std.proofs.lemmas.List.Elements.{All-push, Contains-append_left, Contains-append_right, Contains-push_cases}
-use Rattle.mk_model.specs.Vectors.{entry, zeros, add, subtract, negate, scale, positive_part, negative_part, weight}
+use Rattle.mk_model.specs.Vectors.{zeros, add, subtract, negate, scale, positive_part, negative_part, weight}
 use Rattle.mk_model.specs.Lattices.{lattice_of, HasGrading, is_zero}
 use Rattle.mk_model.specs.Orders.{IsOriented, standard, lead}
 use Rattle.mk_model.specs.Pairs.{AreOrientedMoves, JoinedBelow}
@@ -15,7 +11,7 @@ use Rattle.mk_model.specs.Reductions.{Divides, Reaches, IsReduction, Reduct}
 use Rattle.mk_model.specs.Reductions.Reaches.{here, go}
 use Rattle.mk_model.specs.ReducedBases.{IsReducedBasis}
 use Rattle.mk_model.proofs.VectorAlgebra.{lengths, columns, same_vectors, only_zeros, scale-one, scale-minus_one, positive_part-negate, weight-zeros}
-use Rattle.mk_model.proofs.LatticeLaws.{is_zero-entries, InLattice-columns}
+use Rattle.mk_model.proofs.LatticeLaws.{is_zero-entries, InLattice-columns, is_zero-true}
 use Rattle.mk_model.proofs.MoveLaws.{IsMove-lead_weight}
 use Rattle.mk_model.proofs.Divisors.{Divides-itself}
 use Rattle.mk_model.proofs.Confluence.{reaches_append}
@@ -29,19 +25,8 @@ use Rattle.mk_minimise.specs.LinkSteps.{times_at, IsLinkStep}
 use Rattle.mk_minimise.proofs.LinkLaws.{link_negated, link_less}
 use Rattle.mk_minimise.proofs.LeastLeads.{link_of, link_move, both_oriented}
 
--- ---- zero
-nothing_is_zero : (r : List ℤ) → r ≡ zeros (length r) → is_zero r ≡ true
-nothing_is_zero r e =
-    (Decides-by_and (λ a. int_eq a (pos 0)) (λ a. a ≡ pos 0) (list_all (λ a. int_eq a (pos 0))) (λ a. Decides-int_eq a (pos 0)) refl (λ _ _. refl) r).1 none
-  where
-    none : All (λ a. a ≡ pos 0) r
-    none c d l = get_or_default r c d (pos 0) l ∙ at
-      where
-        at : entry r c ≡ pos 0
-        at = ap (λ x. entry x c) e ∙ omega (arith, ints, columns)
-
 pub something : (r : List ℤ) → is_zero r ≡ false → r ≢ zeros (length r)
-something r f e = both_ways (is_zero r) f (nothing_is_zero r e)
+something r f e = both_ways (is_zero r) f (is_zero-true r e)
 
 zero_or_not : (r : List ℤ) → (r ≡ zeros (length r)) ⊎ (r ≢ zeros (length r))
 zero_or_not r = ⊎_elim (λ e. inl (only_zeros r (is_zero-entries r e))) (λ f. inr (something r f)) (cases_Bool (is_zero r))

@@ -25,9 +25,10 @@ use Rattle.mk_move.specs.declared.side.Side.TheVariants.{Plus, Minus}
 use Rattle.mk_move.specs.declared.steps.OverflowAt.{OverflowAt}
 use Rattle.mk_reduce.specs.Works.{IsRest}
 use Rattle.mk_reduce.proofs.BasisMoves.{grading_of, level_of}
-use Rattle.mk_reduce.proofs.Beginnings.{length-vectors_of, rest_is, rest_graded}
+use Rattle.mk_reduce.proofs.Beginnings.{rest_is, rest_graded}
 use Rattle.mk_reduce.proofs.Heights.{height, step_lowers}
 use Rattle.mk_move.proofs.Parts.{length-oriented}
+use Rattle.mk_move.proofs.MoveVectors.{length-vectors_of}
 use Rattle.mk_minimise.specs.LinkSteps.{IsEnd, times_at, IsLinkAt, NoneIsEnd, IsLessLink, IsLinkStep, NoneEnds, IsLeftOf, IsAdded}
 use Rattle.mk_minimise.specs.Stages.{HasLead}
 

@@ -13,11 +13,12 @@ use Rattle.mk_model.specs.Reductions.{lcm}
 use Rattle.mk_model.specs.Vectors.{weight}
 use Rattle.mk_move.specs.Moves.{Weighed}
 use Rattle.mk_move.specs.MoveLists.{lattice_spanned, BasisView, BelongsTo, IsBasis, vectors_of}
+use Rattle.mk_move.proofs.MoveVectors.{length-vectors_of}
 use Rattle.mk_reduce.specs.Leads.{leads_of}
-use Rattle.mk_reduce.proofs.Beginnings.{length-vectors_of}
+use Rattle.mk_reduce.proofs.LeadLists.{length-leads_of}
 use Rattle.mk_inter.specs.Tails.{IsReducedList}
 use Rattle.mk_inter.proofs.Bases.{grading_of}
-use Rattle.mk_inter.proofs.FoundLeads.{leads_columns, length-leads_of}
+use Rattle.mk_inter.proofs.FoundLeads.{leads_columns}
 use Rattle.mk_minimise.specs.declared.overlaps.Overlap.{Overlap}
 use Rattle.mk_minimise.specs.Links.{AreLower}
 use Rattle.mk_minimise.specs.Overlaps.{IsOverlap}

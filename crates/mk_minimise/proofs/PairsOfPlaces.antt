@@ -8,7 +8,7 @@ use Rattle.mk_model.specs.Reductions.{lcm}
 use Rattle.mk_model.specs.Vectors.{weight}
 use Rattle.mk_move.specs.Moves.{Weighed}
 use Rattle.mk_move.specs.MoveLists.{vectors_of}
-use Rattle.mk_reduce.proofs.Beginnings.{vector_at, length-vectors_of}
+use Rattle.mk_move.proofs.MoveVectors.{vector_at, length-vectors_of}
 use Rattle.mk_minimise.specs.Overlaps.{lcm_at, AreCoprime, HasOtherWeight, overlap_at, IsOverlap}
 
 module _ (w : List ℤ) (moves : List Weighed) (i j : ℕ) (a b : Weighed) (of_a : slice_get moves i ≡ Some a) (of_b : slice_get moves j ≡ Some b) where

@@ -1,22 +1,18 @@
 -- Steps down from points of one weight: where every two steps down from one point are joined below it, joined points step
 -- down to one vector.
-use Rattle.std.proofs.Common.{◌≡◌, ◌⊎◌, inl, inr, ℕ, zero, suc, ◌^◌, ◌<◌, List, length, ℤ, arith, sym, ◌∙◌}
-use Rattle.std.proofs.lemmas.List.Elements.{All-contains}
+use Rattle.std.proofs.Common.{◌≡◌, ◌⊎◌, inl, inr, ℕ, zero, suc, ◌^◌, ◌<◌, List, length, ℤ, arith, ◌∙◌}
 use borrow.Author.Differences.{up}
-use Rattle.mk_model.specs.Vectors.{subtract, weight, IsPoint}
-use Rattle.mk_model.specs.Lattices.{lattice_of, InLattice}
-use Rattle.mk_model.specs.Walks.{IsStep, Walk, Members, Joined}
+use Rattle.mk_model.specs.Vectors.{weight, IsPoint}
+use Rattle.mk_model.specs.Lattices.{lattice_of}
+use Rattle.mk_model.specs.Walks.{Walk, Members, Joined}
 use Rattle.mk_model.specs.Walks.Walk.{stay, step}
 use Rattle.mk_model.specs.Reductions.{Reaches, IsDescent, Meet}
 use Rattle.mk_model.specs.Reductions.Reaches.{here, go}
 use Rattle.mk_model.specs.Pairs.{AreOrientedMoves, IsPointBelow}
-use Rattle.mk_model.proofs.VectorAlgebra.{subtract-add}
 use Rattle.mk_model.proofs.WalkLaws.{walk_from, walk_to, walk_append, walk_weaker}
-use Rattle.mk_model.proofs.Fibres.{step_weight}
 use Rattle.mk_model.proofs.Translation.{walk_keeps}
-use Rattle.mk_model.proofs.Divisors.{lead_divides}
 use Rattle.mk_model.proofs.Ranks.{rank, rank_limit, rank_below, IsBounded-weight}
-use Rattle.mk_model.proofs.Confluence.{reaches_append, descent_walk, member_columns, descent_point, descent_weight, descent_rank}
+use Rattle.mk_model.proofs.Confluence.{reaches_append, descent_walk, descent_point, descent_weight, descent_rank, member_step_weight, step_descends}
 
 -- every two steps down from a point of this weight are joined below it
 abbrev pub PeaksJoined : ℕ → List ℤ → List ℕ → List (List ℤ) → ℤ → Type 0
@@ -24,16 +20,6 @@ PeaksJoined n w p moves W =
     (x a b : List ℤ) → IsPoint n x → weight w x ≡ W → IsDescent moves x a → IsDescent moves x b → Walk (Members moves) (IsPointBelow n p x) a b
 
 module _ {n : ℕ} {rows : List (List ℤ)} {w : List ℤ} {p : List ℕ} {moves : List (List ℤ)} (o : AreOrientedMoves (lattice_of n rows w) p moves) (W : ℤ) where
-  pub member_step_weight : {x y : List ℤ} → IsPoint n x → IsStep (Members moves) x y → weight w y ≡ weight w x
-  member_step_weight {x} {y} q (m, h, s) = step_weight o.grading x y m q (All-contains (InLattice n rows) moves m o.in_lattice h) s
-
-  -- a step between points goes down one way or the other
-  step_descends : {x y : List ℤ} → IsPoint n x → IsPoint n y → IsStep (Members moves) x y → IsDescent moves x y ⊎ IsDescent moves y x
-  step_descends {x} {y} q r (m, h, inr e) = inl (record { move = m; member = h; divides = lead_divides x m q (rw e at r); below = e })
-  step_descends {x} {y} q r (m, h, inl e) =
-      let f : subtract y m ≡ x = rw e (subtract-add x m (omega (arith, member_columns o m h, q.columns))) in
-      inr (record { move = m; member = h; divides = lead_divides y m r (rw f q); below = sym f })
-
   -- ---- walks whose vertices have the weight, and a rank less than a bound
   record IsVertex (t : ℕ) (x : List ℤ) : Type 0 where
     pub point : IsPoint n x
@@ -60,7 +46,7 @@ module _ {n : ℕ} {rows : List (List ℤ)} {w : List ℤ} {p : List ℕ} {moves
         over : (z : List ℤ) → Reaches (IsDescent moves) x z → Reaches (IsDescent moves) v z → Meet moves u v
         over z here s = record { common = u; from_first = here; from_second = reaches_append s (go d here) }
         over z (go {y = y} e r) s =
-            let near = walk_keeps (λ z. weight w z ≡ W) (λ a b h k f. member_step_weight h.point k ∙ f) (descent_weight o q.point d ∙ q.weighs) (peaks x u y q.point q.weighs d e) in
+            let near = walk_keeps (λ z. weight w z ≡ W) (λ a b h k f. member_step_weight o h.point k ∙ f) (descent_weight o q.point d ∙ q.weighs) (peaks x u y q.point q.weighs d e) in
             let first : Walk (Members moves) (IsVertex t) u y = walk_weaker (λ m h. h) (λ z (h, f). vertex_below t x z q h f) near in
             let below : Meet moves u z = ih u z (walk_append first (descent_walk (vertex_descent t) (walk_to first) r)) in
             record { common = below.common; from_first = below.from_first; from_second = reaches_append s below.from_second }
@@ -68,7 +54,7 @@ module _ {n : ℕ} {rows : List (List ℤ)} {w : List ℤ} {p : List ℕ} {moves
     climb : (t : ℕ) → ((u v : List ℤ) → Walk (Members moves) (IsVertex t) u v → Meet moves u v) → (u v : List ℤ) → Walk (Members moves) (IsVertex (suc t)) u v → Meet moves u v
     climb t ih u v (stay q) = record { common = u; from_first = here; from_second = here }
     climb t ih u v (step {y = x} q s r) =
-        around t ih u x v (walk_from r) (step_descends q.point (walk_from r).point s) (climb t ih x v r)
+        around t ih u x v (walk_from r) (step_descends o q.point (walk_from r).point s) (climb t ih x v r)
 
     meets : (t : ℕ) (u v : List ℤ) → Walk (Members moves) (IsVertex t) u v → Meet moves u v
     meets zero u v walk = absurd (omega (arith, (walk_from walk).ranked))
@@ -76,6 +62,6 @@ module _ {n : ℕ} {rows : List (List ℤ)} {w : List ℤ} {p : List ℕ} {moves
 
     pub confluence_at : (x y : List ℤ) → weight w x ≡ W → Joined n (Members moves) x y → Meet moves x y
     confluence_at x y e walk =
-        let level = walk_keeps (λ z. weight w z ≡ W) (λ a b h k f. member_step_weight h k ∙ f) e walk in
+        let level = walk_keeps (λ z. weight w z ≡ W) (λ a b h k f. member_step_weight o h k ∙ f) e walk in
         meets (suc (up W) ^ length p) x y
         (walk_weaker (λ m h. h) (λ z (h, f). record { point = h; weighs = f; ranked = rank_limit (up W) p z }) level)

@@ -9,8 +9,8 @@ use Rattle.mk_model.specs.Vectors.{weight}
 use Rattle.mk_model.proofs.WeightBounds.{IsUpTo-no_heavier}
 use Rattle.mk_move.specs.Moves.{Weighed, IsGraded}
 use Rattle.mk_move.specs.MoveLists.{BasisView, vectors_of}
+use Rattle.mk_move.proofs.MoveVectors.{vector_at, length-vectors_of}
 use Rattle.mk_inter.specs.Tails.{IsReducedList}
-use Rattle.mk_reduce.proofs.Beginnings.{vector_at, length-vectors_of}
 use Rattle.mk_minimise.specs.Stages.{weight_at, IsWeightCut, IsAsHeavy, IsWeightRun, IsPlaceUpTo, IsBoundCut}
 
 -- the weight that a move has

@@ -58,7 +58,8 @@ pub record IsLeftOf (links : List (List ℤ)) (w r : List ℤ) (left : Option We
 abbrev pub IsAddedLeft : BasisView → List Weighed → Option Weighed → List Weighed → Type 0
 IsAddedLeft basis links None after = after ≡ links
 IsAddedLeft basis links (Some left) after =
-    (link : Weighed) × (after ≡ links ++ link ∷ []) × BelongsTo basis.priority basis.grading link × ((link.entries ≡ left.entries) ⊎ (link.entries ≡ negate left.entries))
+    (link : Weighed) × (after ≡ links ++ link ∷ []) × BelongsTo basis.priority basis.grading link
+    × ((link.entries ≡ left.entries) ⊎ (link.entries ≡ negate left.entries))
 
 -- The links after a move is put to them: as before, where they leave nothing of it; or with what they leave, oriented, at the end.
 pub record IsAdded (basis : BasisView) (m : Weighed) (links after : List Weighed) : Type 0 where

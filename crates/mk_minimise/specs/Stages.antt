@@ -61,7 +61,8 @@ pub record StepsLighter (n : ℕ) (rows : List (List ℤ)) (w m : List ℤ) : Ty
 
 -- The leads of the links tell, of the moves of a weight, whose lead isn't the least of its component.
 pub record TellsLeast (n : ℕ) (w : List ℤ) (moves : List (List ℤ)) (bound : ℤ) (links : List (List ℤ)) : Type 0 where
-  pub least : (m : List ℤ) → Contains moves m → weight w (lead m) ≡ bound → ¬ (HasLead links (lead m)) → IsLeastOfComponent (lattice_of n moves w) (lead m)
+  pub least : (m : List ℤ) → Contains moves m → weight w (lead m) ≡ bound → ¬ (HasLead links (lead m))
+      → IsLeastOfComponent (lattice_of n moves w) (lead m)
   pub others : (m : List ℤ) → Contains moves m → weight w (lead m) ≡ bound → HasLead links (lead m) → StepsLighter n moves w m
 
 -- The moves that are chosen from the first of a list: those whose lead is the least of its component, in their order.

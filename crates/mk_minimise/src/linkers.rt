@@ -32,9 +32,14 @@ pub(crate) trait Linker {
         requires reduced { IsReducedList basis.now }
         requires front { IsFront basis.now lower.now }
         requires within { length lower.now.moves < length basis.now.moves }
-        ensures tells { IfOk result (λ links. TellsLeast (length basis.now.grading) basis.now.grading (vectors_of basis.now.moves) (weight_at basis.now (length lower.now.moves)) (vectors_of links.items)) }
-        ensures belongs { IfOk result (λ links. All (BelongsTo basis.now.priority basis.now.grading) links.items) }
-        ensures refused { IfErr result (λ fault. (upto : Option ℕ) → IsUpTo upto (weight_at basis.now (length lower.now.moves)) → IsMinimiseFault basis.now upto fault) };
+        ensures tells { IfOk result (λ links.
+            TellsLeast (length basis.now.grading) basis.now.grading (vectors_of basis.now.moves)
+            (weight_at basis.now (length lower.now.moves)) (vectors_of links.items)) }
+        ensures belongs { IfOk result (λ links.
+            All (BelongsTo basis.now.priority basis.now.grading) links.items) }
+        ensures refused { IfErr result (λ fault.
+            (upto : Option ℕ) → IsUpTo upto (weight_at basis.now (length lower.now.moves)) →
+            IsMinimiseFault basis.now upto fault) };
 }
 
 /// The caller's thread alone.

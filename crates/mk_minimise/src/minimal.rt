@@ -79,7 +79,8 @@ impl Model for MinimalList {
 
     ghost view = { λ l. record { columns = l.columns; moves = l.moves.items } };
 
-    ghost invariant = { λ l. (length l.moves.items < 2 ^ 32) × All (λ m. length m.entries ≡ l.columns) l.moves.items };
+    ghost invariant = { λ l.
+        (length l.moves.items < 2 ^ 32) × All (λ m. length m.entries ≡ l.columns) l.moves.items };
 }
 
 impl MoveList for MinimalList {
@@ -108,7 +109,8 @@ pub fn minimise(
     upto: Option<u64>,
 ) -> Result<MinimalList, MinimiseFault>
     requires { grading.now ≡ basis.now.grading }
-    ensures answer { IfOk result (λ list. IsAnswer (lattice_spanned basis.now) upto (vectors_of list.moves)) }
+    ensures answer { IfOk result (λ list.
+        IsAnswer (lattice_spanned basis.now) upto (vectors_of list.moves)) }
     ensures columns { IfOk result (λ list. list.columns ≡ length basis.now.grading) }
     ensures graded { IfOk result (λ list. All (IsGraded basis.now.grading) list.moves) }
     ensures refused { IfErr result (IsMinimiseFault basis.now upto) }
@@ -126,7 +128,8 @@ pub fn minimise_shared<R: Threads + Sync>(
     upto: Option<u64>,
 ) -> Result<MinimalList, MinimiseFault>
     requires { grading.now ≡ basis.now.grading }
-    ensures answer { IfOk result (λ list. IsAnswer (lattice_spanned basis.now) upto (vectors_of list.moves)) }
+    ensures answer { IfOk result (λ list.
+        IsAnswer (lattice_spanned basis.now) upto (vectors_of list.moves)) }
     ensures columns { IfOk result (λ list. list.columns ≡ length basis.now.grading) }
     ensures graded { IfOk result (λ list. All (IsGraded basis.now.grading) list.moves) }
     ensures refused { IfErr result (IsMinimiseFault basis.now upto) }
@@ -144,7 +147,8 @@ fn list_of<L: Linker>(
 ) -> Result<MinimalList, MinimiseFault>
     requires ready { L.ready linker.now }
     requires grading { grading.now ≡ basis.now.grading }
-    ensures answer { IfOk result (λ list. IsAnswer (lattice_spanned basis.now) upto (vectors_of list.moves)) }
+    ensures answer { IfOk result (λ list.
+        IsAnswer (lattice_spanned basis.now) upto (vectors_of list.moves)) }
     ensures columns { IfOk result (λ list. list.columns ≡ length basis.now.grading) }
     ensures graded { IfOk result (λ list. All (IsGraded basis.now.grading) list.moves) }
     ensures refused { IfErr result (IsMinimiseFault basis.now upto) }
@@ -166,9 +170,12 @@ fn chosen_of<L: Linker>(
 ) -> Result<Vec<Move>, MinimiseFault>
     requires ready { L.ready linker.now }
     requires reduced { IsReducedList basis.now }
-    ensures chosen { IfOk result (λ chosen. AreChosenUpTo (length basis.now.grading) basis.now.grading (vectors_of basis.now.moves) upto (vectors_of chosen.items)) }
-    ensures belongs { IfOk result (λ chosen. All (BelongsTo basis.now.priority basis.now.grading) chosen.items) }
-    ensures few { IfOk result (λ chosen. length chosen.items ≤ length basis.now.moves) }
+    ensures chosen { IfOk result (λ chosen.
+        AreChosenUpTo (length basis.now.grading) basis.now.grading (vectors_of basis.now.moves) upto
+        (vectors_of chosen.items)) }
+    ensures belongs { IfOk result (λ chosen.
+        All (BelongsTo basis.now.priority basis.now.grading) chosen.items) }
+    ensures few_chosen { IfOk result (λ chosen. length chosen.items ≤ length basis.now.moves) }
     ensures refused { IfErr result (IsMinimiseFault basis.now upto) }
 {
     let mut lower = Lower::new(alloc, basis)?;

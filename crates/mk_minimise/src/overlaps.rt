@@ -25,7 +25,8 @@ pub(crate) fn overlaps_of(
     basis: &Basis,
     weight: i128,
 ) -> Result<Vec<Overlap>, NoMemory>
-    ensures { IfOk result (λ found. AreOverlaps basis.now.grading (vectors_of basis.now.moves) weight found.items) }
+    ensures { IfOk result (λ found.
+        AreOverlaps basis.now.grading (vectors_of basis.now.moves) weight found.items) }
 {
     let mut found = Vec::new(alloc);
     for second in 0..basis.len() {
@@ -42,8 +43,11 @@ fn push_overlaps(
     found: &mut Vec<Overlap>,
 ) -> Result<(), NoMemory>
     requires within { second < length basis.now.moves }
-    requires found { ListsBefore basis.now.grading (vectors_of basis.now.moves) weight (pair_of 0 second) found.old.items }
-    ensures found { OnOk result (ListsBefore basis.now.grading (vectors_of basis.now.moves) weight (pair_of second second) found.new.items) }
+    requires found { ListsBefore basis.now.grading (vectors_of basis.now.moves) weight
+        (pair_of 0 second) found.old.items }
+    ensures found { OnOk result
+        (ListsBefore basis.now.grading (vectors_of basis.now.moves) weight
+        (pair_of second second) found.new.items) }
 {
     for first in 0..second {
         if let Some(pair) = overlap_of(basis, weight, first, second) {
@@ -58,7 +62,8 @@ fn overlap_of(basis: &Basis, weight: i128, first: u32, second: u32) -> Option<Ov
     requires ordered { first < second }
     requires within { second < length basis.now.moves }
     ensures value { IfSome result (λ pair. pair ≡ overlap_at first second) }
-    ensures overlap { IfSome result (IsOverlap basis.now.grading (vectors_of basis.now.moves) weight) }
+    ensures overlap { IfSome result
+        (IsOverlap basis.now.grading (vectors_of basis.now.moves) weight) }
     ensures none { IfNone result (AreCoprime (vectors_of basis.now.moves) first second
         ⊎ HasOtherWeight basis.now.grading (vectors_of basis.now.moves) weight first second) }
 {
@@ -79,7 +84,8 @@ fn has_lcm_weight(a: &Move, b: &Move, grading: &Grading, bound: i128) -> bool
     requires first { IsRest grading.now a.now }
     requires second { IsRest grading.now b.now }
     requires overlap { ¬ (AreDisjoint (lead a.now.entries) (lead b.now.entries)) }
-    ensures { IsTrue result ↔ (weight grading.now (lcm (lead a.now.entries) (lead b.now.entries)) ≡ bound) }
+    ensures { IsTrue result ↔
+        (weight grading.now (lcm (lead a.now.entries) (lead b.now.entries)) ≡ bound) }
 {
     prove!(a.columns() == grading.columns());
     prove!(b.columns() == grading.columns());

@@ -35,9 +35,14 @@ pub(crate) fn shared_links_of<R: Threads + Sync>(
     requires reduced { IsReducedList basis.now }
     requires front { IsFront basis.now lower.now }
     requires within { length lower.now.moves < length basis.now.moves }
-    ensures tells { IfOk result (λ links. TellsLeast (length basis.now.grading) basis.now.grading (vectors_of basis.now.moves) (weight_at basis.now (length lower.now.moves)) (vectors_of links.items)) }
-    ensures belongs { IfOk result (λ links. All (BelongsTo basis.now.priority basis.now.grading) links.items) }
-    ensures refused { IfErr result (λ fault. (upto : Option ℕ) → IsUpTo upto (weight_at basis.now (length lower.now.moves)) → IsMinimiseFault basis.now upto fault) }
+    ensures tells { IfOk result (λ links.
+        TellsLeast (length basis.now.grading) basis.now.grading (vectors_of basis.now.moves)
+        (weight_at basis.now (length lower.now.moves)) (vectors_of links.items)) }
+    ensures belongs { IfOk result (λ links.
+        All (BelongsTo basis.now.priority basis.now.grading) links.items) }
+    ensures refused { IfErr result (λ fault.
+        (upto : Option ℕ) → IsUpTo upto (weight_at basis.now (length lower.now.moves)) →
+        IsMinimiseFault basis.now upto fault) }
 {
     let weight = basis.move_at(lower.len()).weight();
     let pairs = overlaps_of(alloc, lower.basis(), weight)?;
@@ -59,7 +64,8 @@ fn remainders_of<R: Threads + Sync>(
     pairs: &[Overlap],
 ) -> Result<Vec<Option<Move>>, MinimiseFault>
     requires { All (IsPlacePair (vectors_of lower.now.moves)) pairs.now }
-    ensures remainders { IfOk result (λ rests. AllZip (IsRemainderOf lower.now) pairs.now rests.items) }
+    ensures remainders { IfOk result (λ rests.
+        AllZip (IsRemainderOf lower.now) pairs.now rests.items) }
     ensures refused { IfErr result (IsFaultOfPairs (vectors_of lower.now.moves) pairs.now) }
 {
     let rests: Result<Vec<Option<Move>>, MinimiseFault> = pairs
@@ -69,7 +75,9 @@ fn remainders_of<R: Threads + Sync>(
             || Scratch::new(),
             |scratch: &mut Scratch, pair: &Overlap| -> Result<Option<Move>, MinimiseFault>
                 requires { IsPlacePair (vectors_of lower.now.moves) pair.now }
-                ensures { MatchResult result (IsRemainderOf lower.entry.now pair.now) (IsPairFault (vectors_of lower.entry.now.moves) (pair_of pair.now.first pair.now.second)) }
+                ensures { MatchResult result (IsRemainderOf lower.entry.now pair.now)
+                    (IsPairFault (vectors_of lower.entry.now.moves)
+                    (pair_of pair.now.first pair.now.second)) }
             { remainder_of(scratch, lower, pair.first, pair.second) },
         )
         .collect(rt, alloc)?;

@@ -68,9 +68,14 @@ pub(crate) fn links_of(
     requires reduced { IsReducedList basis.now }
     requires front { IsFront basis.now lower.now }
     requires within { length lower.now.moves < length basis.now.moves }
-    ensures tells { IfOk result (λ links. TellsLeast (length basis.now.grading) basis.now.grading (vectors_of basis.now.moves) (weight_at basis.now (length lower.now.moves)) (vectors_of links.items)) }
-    ensures belongs { IfOk result (λ links. All (BelongsTo basis.now.priority basis.now.grading) links.items) }
-    ensures refused { IfErr result (λ fault. (upto : Option ℕ) → IsUpTo upto (weight_at basis.now (length lower.now.moves)) → IsMinimiseFault basis.now upto fault) }
+    ensures tells { IfOk result (λ links.
+        TellsLeast (length basis.now.grading) basis.now.grading (vectors_of basis.now.moves)
+        (weight_at basis.now (length lower.now.moves)) (vectors_of links.items)) }
+    ensures belongs { IfOk result (λ links.
+        All (BelongsTo basis.now.priority basis.now.grading) links.items) }
+    ensures refused { IfErr result (λ fault.
+        (upto : Option ℕ) → IsUpTo upto (weight_at basis.now (length lower.now.moves)) →
+        IsMinimiseFault basis.now upto fault) }
 {
     let weight = basis.move_at(lower.len()).weight();
     let mut links = Vec::new(alloc);
@@ -92,7 +97,8 @@ pub(crate) fn remainder_of(
     j: u32,
 ) -> Result<Option<Move>, MinimiseFault>
     requires pair { IsPairOf (vectors_of lower.now.moves) (pair_of i j) }
-    ensures { MatchResult result (IsRemainder lower.now (pair_of i j)) (IsPairFault (vectors_of lower.now.moves) (pair_of i j)) }
+    ensures { MatchResult result (IsRemainder lower.now (pair_of i j))
+        (IsPairFault (vectors_of lower.now.moves) (pair_of i j)) }
 {
     match work_on(scratch, lower.basis(), lower.finder(), i, j) {
         Ok(rest) => Ok(rest),
@@ -118,13 +124,18 @@ pub(crate) fn choose(
     requires reduced { IsReducedList basis.now }
     requires run { IsWeightRun basis.now start end }
     requires links { All (BelongsTo basis.now.priority basis.now.grading) links.now }
-    requires tells { TellsLeast (length basis.now.grading) basis.now.grading (vectors_of basis.now.moves) (weight_at basis.now start) (vectors_of links.now) }
-    requires chosen { AreChosen (length basis.now.grading) basis.now.grading (vectors_of basis.now.moves) start (vectors_of chosen.old.items) }
+    requires tells { TellsLeast (length basis.now.grading) basis.now.grading
+        (vectors_of basis.now.moves) (weight_at basis.now start) (vectors_of links.now) }
+    requires chosen { AreChosen (length basis.now.grading) basis.now.grading
+        (vectors_of basis.now.moves) start (vectors_of chosen.old.items) }
     requires belongs { All (BelongsTo basis.now.priority basis.now.grading) chosen.old.items }
-    requires few { length chosen.old.items ≤ start }
-    ensures chosen { OnOk result (AreChosen (length basis.now.grading) basis.now.grading (vectors_of basis.now.moves) end (vectors_of chosen.new.items)) }
-    ensures belongs { OnOk result (All (BelongsTo basis.now.priority basis.now.grading) chosen.new.items) }
-    ensures few { OnOk result (length chosen.new.items ≤ end) }
+    requires few_chosen { length chosen.old.items ≤ start }
+    ensures chosen { OnOk result
+        (AreChosen (length basis.now.grading) basis.now.grading (vectors_of basis.now.moves) end
+        (vectors_of chosen.new.items)) }
+    ensures belongs { OnOk result
+        (All (BelongsTo basis.now.priority basis.now.grading) chosen.new.items) }
+    ensures few_chosen { OnOk result (length chosen.new.items ≤ end) }
 {
     for place in start..end {
         let m = basis.move_at(place);
@@ -138,7 +149,8 @@ pub(crate) fn choose(
 /// Is the lead of the move the lead of a link? All have as many columns.
 fn has_lead(links: &[Move], m: &Move) -> bool
     requires columns { All (λ link. length link.entries ≡ length m.now.entries) links.now }
-    ensures { (w : List ℤ) → AreWeights w → All (IsRest w) links.now → IsRest w m.now → IsTrue result ↔ HasLead (vectors_of links.now) (lead m.now.entries) }
+    ensures { (w : List ℤ) → AreWeights w → All (IsRest w) links.now → IsRest w m.now →
+        IsTrue result ↔ HasLead (vectors_of links.now) (lead m.now.entries) }
 {
     for link in links {
         if is_end(link, m, Side::Plus) {

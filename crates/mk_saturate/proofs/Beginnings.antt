@@ -1,12 +1,12 @@
 -- The saturation that the rows of a table begin.
-use Rattle.std.proofs.Common.{◌≡◌, inl, inr, ℕ, zero, suc, ◌*◌, ◌≤◌, Bool, true, false, List, [], length, take, drop, replicate, ℤ, pos, All, arith, ap, refl, sym, ◌∙◌, subst, length-take, length-drop}
+use Rattle.std.proofs.Common.{◌≡◌, inl, inr, ℕ, ◌≤◌, Bool, true, false, List, [], length, replicate, ℤ, pos, All, arith, ap, refl, sym, ◌∙◌, subst}
 use Rattle.std.specs.List.{AllZip}
 use Rattle.std.proofs.lemmas.List.{get_or-replicate, length-replicate}
-use Rattle.std.proofs.lemmas.List.Elements.{All-cons, All-nil, All-map}
+use Rattle.std.proofs.lemmas.List.Elements.{All-map}
 use Rattle.mk_model.specs.Vectors.{weight}
 use Rattle.mk_model.specs.Lattices.{HasGrading, SameLattice, nonzero_rows}
 use Rattle.mk_model.specs.Saturation.{every_column, ConnectedUpTo}
-use Rattle.mk_model.specs.Tables.{Grid, cut, rows_of}
+use Rattle.mk_model.specs.Tables.{Grid, rows_of}
 use Rattle.mk_model.proofs.LatticeLaws.{AllColumns}
 use Rattle.mk_model.proofs.RowConnections.{connected_by_rows}
 use Rattle.mk_files.specs.Table.{IsTable}
@@ -20,21 +20,15 @@ use Rattle.mk_saturate.proofs.RowsTurned.{got_is, got_within}
 use Rattle.mk_saturate.proofs.Spans.{SameLattice-transitive, nonzero_columns, nonzero_lattice}
 use Rattle.mk_saturate.proofs.Turned.{turned_lattice}
 use Rattle.mk_model.proofs.Connections.{connected_in_columns}
+use Rattle.mk_model.proofs.TableRows.{rows_columns}
 
 -- where each row is graded, none is refused
 pub none_ungraded : (rows : List (List ℤ)) (w : List ℤ) (value : ℤ) → All (λ row. weight w row ≡ pos 0) rows → IsFirstUngraded rows w value → ⊥
 none_ungraded rows w value graded f =
     f.not_zero (f.product ∙ ap (weight w) (sym (got_is rows f.place f.row [] f.at)) ∙ graded f.place [] (got_within rows f.place f.row f.at))
 
--- ---- the rows of a table have as many columns as it has
-cut_columns : (rows columns : ℕ) (entries : List ℤ) → length entries ≡ rows * columns → AllColumns columns (cut rows columns entries)
-cut_columns zero columns entries e = All-nil (λ row. length row ≡ columns)
-cut_columns (suc rows) columns entries e =
-    All-cons (λ row. length row ≡ columns) (take columns entries) (cut rows columns (drop columns entries))
-    (omega (arith, length-take columns entries)) (cut_columns rows columns (drop columns entries) (omega (arith, length-drop columns entries)))
-
-pub rows_columns : (grid : Grid) → IsTable grid → AllColumns grid.columns (rows_of grid)
-rows_columns grid h = cut_columns grid.rows grid.columns grid.entries h.filled
+pub table_columns : (grid : Grid) → IsTable grid → AllColumns grid.columns (rows_of grid)
+table_columns grid h = rows_columns grid h.filled
 
 -- ---- the moves of a basis have its grading
 pub basis_graded : (basis : BasisView) → IsBasis basis → HasGrading (lattice_spanned basis)
@@ -55,8 +49,8 @@ all_left_connected basis h =
 -- the rows span the lattice of the moves that they begin
 pub start_lattice : (grid : Grid) (p : List ℕ) (moves : List (List ℤ)) → IsTable grid → AllZip (IsRowTurned p) (nonzero_rows (rows_of grid)) moves → SameLattice grid.columns (rows_of grid) moves
 start_lattice grid p moves h z =
-    SameLattice-transitive grid.columns (rows_of grid) (nonzero_rows (rows_of grid)) moves (nonzero_lattice grid.columns (rows_of grid) (rows_columns grid h))
-    (turned_lattice p grid.columns (nonzero_rows (rows_of grid)) moves z (nonzero_columns grid.columns (rows_of grid) (rows_columns grid h)))
+    SameLattice-transitive grid.columns (rows_of grid) (nonzero_rows (rows_of grid)) moves (nonzero_lattice grid.columns (rows_of grid) (table_columns grid h))
+    (turned_lattice p grid.columns (nonzero_rows (rows_of grid)) moves z (nonzero_columns grid.columns (rows_of grid) (table_columns grid h)))
 
 -- with every column unsaturated each basis of few moves is a saturation
 pub all_left : (n : ℕ) (basis : BasisView) (left : List Bool) → IsBasis basis → length basis.grading ≡ n → left ≡ replicate n true → length basis.moves ≤ 4096 → IsSaturation (record { basis = basis; left = left })

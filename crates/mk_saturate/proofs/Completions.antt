@@ -14,13 +14,13 @@ use Rattle.mk_model.specs.Saturation.{without_column, ConnectedUpTo, drop_redund
 use Rattle.mk_model.proofs.Connections.{connected_in_columns}
 use Rattle.mk_model.proofs.Dropping.{drop_redundant_apart}
 use Rattle.mk_move.specs.MoveLists.{BasisView, IsBasis, vectors_of}
+use Rattle.mk_move.proofs.MoveVectors.{length-vectors_of}
 use Rattle.mk_core.specs.Phases.{state_of}
 use Rattle.mk_core.specs.SaturatedBases.{IsSaturated}
 use Rattle.mk_core.specs.declared.phase.Phase.{Phase}
 use Rattle.mk_saturate.specs.Saturations.{SaturationView, IsSaturation, NoneLeft, IsPhaseFromBasis, IsNeeded, IsDropped}
 use Rattle.mk_saturate.proofs.Beginnings.{basis_graded}
 use Rattle.mk_saturate.proofs.Dropped.{drop_redundant_short, kept_lattice, kept_pairs, kept_markov, column_saturated}
-use Rattle.mk_saturate.proofs.TurnedMoves.{length-vectors}
 
 -- ---- columns that are left
 pub left_within : (left : List Bool) (column : ℕ) → is_left left column ≡ true → column < length left
@@ -85,7 +85,7 @@ module _ (before : BasisView) (p : List ℕ) (phase : Phase) (after : BasisView)
   }
 
   leaves_few : length after.moves ≤ 65536
-  leaves_few = omega (arith, length-vectors after.moves, ap length needed.moves, drop_redundant_short state.basis, legal.basis_within)
+  leaves_few = omega (arith, length-vectors_of after.moves, ap length needed.moves, drop_redundant_short state.basis, legal.basis_within)
 
 -- the column that the list names first is saturated
 pub column_taken : (saturation : SaturationView) (column : ℕ) (p : List ℕ) (phase : Phase) (after : BasisView) (left : List Bool) → IsSaturation saturation → IsPhaseFromBasis saturation.basis (column ∷ p) phase → IsNeeded phase after → left ≡ set saturation.left column false → IsSaturation (record { basis = after; left = left })

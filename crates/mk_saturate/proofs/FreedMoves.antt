@@ -1,9 +1,9 @@
 -- Columns that moves free: one column and one move after another.
-use Rattle.std.proofs.Common.{◌≡◌, ◌⊎◌, inl, inr, ℕ, zero, suc, ◌+◌, ◌-◌, ◌≤◌, ◌<◌, Bool, true, false, not, ◌&&◌, ◌||◌, if◌then◌else◌, List, [], ◌∷◌, ◌++◌, length, set, take, drop, get_or, Some, slice_get, ℤ, pos, neg_ℤ, ◌≤ℤ◌, ◌<ℤ◌, All, arith, ap, refl, sym, ◌∙◌, subst, length-set}
+use Rattle.std.proofs.Common.{◌≡◌, ◌⊎◌, inl, inr, ℕ, suc, ◌+◌, ◌≤◌, ◌<◌, Bool, true, false, not, ◌&&◌, ◌||◌, if◌then◌else◌, List, [], ◌++◌, length, set, take, drop, Some, slice_get, ℤ, pos, neg_ℤ, ◌<ℤ◌, All, arith, ap, refl, sym, ◌∙◌, subst, length-set}
 use Rattle.std.specs.Ordering.{int_eq}
 use Rattle.std.specs.Int.{int_max}
 use Rattle.std.proofs.lemmas.Int.{ints, clamps, by_lt_z}
-use Rattle.std.proofs.lemmas.Bool.{cases_eq, cases_lt, both_ways}
+use Rattle.std.proofs.lemmas.Bool.{cases_eq, both_ways}
 use Rattle.std.proofs.lemmas.Bool.Decides.{Decides-int_eq}
 use Rattle.std.proofs.lemmas.List.{get_or-set_same, get_or-set_other, ext_get_or, drop_more, drop_all, take_all, append-nil}
 use Rattle.mk_model.specs.Vectors.{entry, negate, positive_part, negative_part}
@@ -11,29 +11,22 @@ use Rattle.mk_model.specs.Orders.{standard, first_along, oriented_by}
 use Rattle.mk_model.specs.Lattices.{lattice_of, InLattice, HasGrading}
 use Rattle.mk_model.specs.Saturation.{ConnectedUpTo}
 use Rattle.mk_model.specs.FreeColumns.{is_left, columns_left, is_within, without_support, freed_by, freed_by_row, freed_by_rows}
-use Rattle.mk_model.proofs.FreeColumns.{range_all, range_fails, length-without_support, without_support_at, length-freed_by_row, length-freed_by_rows, oriented_as_it_is, oriented_as_negative, max_zero, moves_freed}
-use Rattle.mk_model.proofs.VectorAlgebra.{entry-positive_part, entry-negative_part, negate-negate, positive_part-negate, length-positive_part, length-negative_part}
+use Rattle.mk_model.proofs.FreeColumns.{range_all, range_fails, length-without_support, without_support_at, length-freed_by_rows, oriented_as_it_is, oriented_as_negative, moves_freed}
+use Rattle.mk_model.proofs.VectorAlgebra.{entry-positive_part, entry-negative_part, negate-negate, positive_part-negate}
 use Rattle.mk_model.proofs.LatticeLaws.{InLattice-row}
 use Rattle.mk_model.proofs.NormalForms.{All-from_contains}
+use Rattle.mk_model.proofs.Integers.{max_zero}
 use Rattle.mk_move.specs.Moves.{Weighed}
 use Rattle.mk_move.specs.MoveLists.{vectors_of}
-use Rattle.mk_move.specs.Sides.{part_of, entry_on}
+use Rattle.mk_move.specs.Sides.{part_of}
 use Rattle.mk_move.specs.declared.side.Side.{Side}
 use Rattle.mk_move.specs.declared.side.Side.TheVariants.{Plus, Minus}
+use Rattle.mk_move.proofs.MoveVectors.{length-vectors_of, vector_at}
 use Rattle.mk_saturate.specs.Freed.{other_side, turned_to, freed_on}
 use Rattle.mk_saturate.specs.Saturations.{SaturationView, IsSaturation}
 use Rattle.mk_saturate.proofs.Beginnings.{basis_graded}
-use Rattle.mk_saturate.proofs.ColumnsLeft.{column_fewer, left_short}
+use Rattle.mk_saturate.proofs.ColumnsLeft.{column_fewer}
 use Rattle.mk_saturate.proofs.RowsTurned.{got_within}
-use Rattle.mk_saturate.proofs.TurnedMoves.{length-vectors, entries_at}
-
-pub length-part : (side : Side) (u : List ℤ) → length (part_of side u) ≡ length u
-length-part Plus u = length-positive_part u
-length-part Minus u = length-negative_part u
-
-pub entry-part : (side : Side) (u : List ℤ) (c : ℕ) → entry (part_of side u) c ≡ entry_on side (entry u c)
-entry-part Plus u c = entry-positive_part u c
-entry-part Minus u c = entry-negative_part u c
 
 -- ---- answers of tests
 pub on_false : (r b : Bool) → r ≡ not b → r ≡ true → b ≡ false
@@ -48,10 +41,6 @@ on_true r false e f = absurd (both_ways r f e)
 -- each column before one is left or has no entry
 pub record AreLeftUpTo (left : List Bool) (x : List ℤ) (k : ℕ) : Type 0 where
   pub each : (c : ℕ) → c < k → (is_left left c || int_eq (entry x c) (pos 0)) ≡ true
-
-pub or_right : (a b : Bool) → b ≡ true → (a || b) ≡ true
-or_right true b e = refl
-or_right false b e = e
 
 pub within_all : (x : List ℤ) (left : List Bool) (k : ℕ) → length x ≤ k → AreLeftUpTo left x k → is_within x left ≡ true
 unfolding is_within
@@ -192,8 +181,8 @@ lead_of_none u columns z h =
 -- ---- one move after another
 pub freed_more : (p : List ℕ) (moves : List Weighed) (k : ℕ) (m : Weighed) (left after all : List Bool) → slice_get moves k ≡ Some m → freed_by_rows p (drop k (vectors_of moves)) left ≡ all → after ≡ freed_by_row p m.entries left → freed_by_rows p (drop (k + 1) (vectors_of moves)) after ≡ all
 freed_more p moves k m left after all at h e =
-    ap (freed_by_rows p (drop (k + 1) (vectors_of moves))) (e ∙ ap (λ row. freed_by_row p row left) (sym (entries_at moves k m at)))
-    ∙ sym (ap (λ rows. freed_by_rows p rows left) (drop_more (vectors_of moves) k [] (omega (arith, got_within moves k m at, length-vectors moves)))) ∙ h
+    ap (freed_by_rows p (drop (k + 1) (vectors_of moves))) (e ∙ ap (λ row. freed_by_row p row left) (sym (vector_at moves k m at)))
+    ∙ sym (ap (λ rows. freed_by_rows p rows left) (drop_more (vectors_of moves) k [] (omega (arith, got_within moves k m at, length-vectors_of moves)))) ∙ h
 
 -- ---- a saturation whose free columns left
 pub freed_saturation : (s : SaturationView) → IsSaturation s → (left : List Bool) → left ≡ freed_by_rows (standard (length s.basis.grading)) (vectors_of s.basis.moves) s.left → IsSaturation (record { basis = s.basis; left = left })

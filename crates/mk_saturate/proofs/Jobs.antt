@@ -3,12 +3,12 @@ use Rattle.std.proofs.Common.{ℕ, List, sym, ◌∙◌, subst}
 use Rattle.std.specs.List.{AllZip}
 use Rattle.mk_move.specs.MoveLists.{BasisView, vectors_of}
 use Rattle.mk_core.specs.JobPhases.{IsPhaseOf}
-use Rattle.mk_core.specs.declared.phase.Job.{Job}
+use Rattle.mk_core.specs.Jobs.{JobView}
 use Rattle.mk_core.specs.declared.phase.Phase.{Phase}
 use Rattle.mk_model.specs.Orders.{IsRowTurned}
 use Rattle.mk_saturate.specs.Saturations.{IsJob, IsPhaseFromBasis}
 
-pub phase_of_job : (basis : BasisView) (p : List ℕ) (budget : ℕ) (job : Job) (phase : Phase) → IsJob basis p budget job → IsPhaseOf job phase → IsPhaseFromBasis basis p phase
+pub phase_of_job : (basis : BasisView) (p : List ℕ) (budget : ℕ) (job : JobView) (phase : Phase) → IsJob basis p budget job → IsPhaseOf job phase → IsPhaseFromBasis basis p phase
 phase_of_job basis p budget job phase h from = record {
   priority = from.priority ∙ h.priority;
   grading = from.grading ∙ h.grading;

@@ -1,22 +1,17 @@
 -- The rows of a table, turned into moves one after another.
-use Rattle.std.proofs.Common.{◌≡◌, ◌≢◌, ℕ, zero, suc, ◌+◌, ◌<◌, ◌≤◌, Bool, true, false, cond, not, List, [], ◌∷◌, ◌++◌, length, take, drop, get_or, slice_get, Option, Some, None, Ok, All, refl, ap, sym, ◌∙◌, subst, arith, ℤ, pos, length-append}
+use Rattle.std.proofs.Common.{◌≡◌, ℕ, zero, suc, ◌+◌, ◌<◌, ◌≤◌, Bool, true, false, cond, not, List, [], ◌∷◌, ◌++◌, length, take, get_or, slice_get, Option, Some, None, Ok, All, ap, sym, ◌∙◌, subst, arith, ℤ, pos, length-append}
 use Rattle.std.proofs.lemmas.List.{append-nil, map-append}
 use Rattle.std.proofs.lemmas.List.Elements.{filter_more, All-more, AllZip-push}
 use Rattle.std.specs.List.{AllZip}
-use Rattle.mk_model.specs.Vectors.{weight, zeros}
+use Rattle.mk_model.specs.Vectors.{weight}
 use Rattle.mk_model.specs.Lattices.{is_zero, nonzero_rows}
-use Rattle.mk_model.specs.Tables.{cut}
-use Rattle.mk_model.proofs.VectorAlgebra.{only_zeros, weight-zeros}
-use Rattle.mk_model.proofs.LatticeLaws.{is_zero-entries}
+use Rattle.mk_model.proofs.VectorAlgebra.{weight-zeros}
+use Rattle.mk_model.proofs.LatticeLaws.{is_zero-true, is_zero-false}
 use Rattle.mk_move.specs.Moves.{Weighed, ReadsRow}
 use Rattle.mk_move.specs.MoveLists.{BasisView, vectors_of}
 use Rattle.mk_model.specs.Orders.{IsRowTurned}
 use Rattle.mk_saturate.specs.Starts.{Starts, PutsOn, with_start}
 use Rattle.mk_move.proofs.Belongings.{BelongsTo-of_row}
-
-pub length-cut : (rows columns : ℕ) (entries : List ℤ) → length (cut rows columns entries) ≡ rows
-length-cut zero columns entries = refl
-length-cut (suc rows) columns entries = ap suc (length-cut rows columns (drop columns entries))
 
 -- what is got at a place stands there
 pub got_is : {X : Type 0} (xs : List X) (i : ℕ) (x d : X) → slice_get xs i ≡ Some x → get_or xs i d ≡ x
@@ -28,20 +23,6 @@ pub got_within : {X : Type 0} (xs : List X) (i : ℕ) (x : X) → slice_get xs i
 got_within [] i x e = absurd (cc)
 got_within (y ∷ xs) zero x e = omega arith
 got_within (y ∷ xs) (suc i) x e = omega (arith, got_within xs i x e)
-
-is_zero-zeros : (n : ℕ) → is_zero (zeros n) ≡ true
-is_zero-zeros zero = refl
-is_zero-zeros (suc n) = is_zero-zeros n
-
-zero_row : (row : List ℤ) → row ≡ zeros (length row) → is_zero row ≡ true
-zero_row row e = ap is_zero e ∙ is_zero-zeros (length row)
-
-other_row : (row : List ℤ) → row ≢ zeros (length row) → is_zero row ≡ false
-other_row row ne = go (is_zero row) refl
-  where
-    go : (b : Bool) → is_zero row ≡ b → is_zero row ≡ false
-    go false e = e
-    go true e = absurd (ne (only_zeros row (is_zero-entries row e)))
 
 -- ---- one row more
 module _ (rows : List (List ℤ)) (r : ℕ) (row : List ℤ) (at : slice_get rows r ≡ Some row) where
@@ -57,10 +38,10 @@ module _ (rows : List (List ℤ)) (r : ℕ) (row : List ℤ) (at : slice_get row
         All-more (λ row. weight w row ≡ pos 0) rows r [] (got_within rows r row at) h.1 (ap (weight w) (got_is rows r row [] at) ∙ z)
 
     turned : (found : Option Weighed) → ReadsRow row w p (Ok found) → AllZip (IsRowTurned p) (nonzero_rows (take (r + 1) rows)) (vectors_of (with_start basis.moves found))
-    turned None z = subst (λ xs. AllZip (IsRowTurned p) xs (vectors_of basis.moves)) (sym (one_more true (zero_row row z) ∙ append-nil (nonzero_rows (take r rows)))) h.0.moves
+    turned None z = subst (λ xs. AllZip (IsRowTurned p) xs (vectors_of basis.moves)) (sym (one_more true (is_zero-true row z) ∙ append-nil (nonzero_rows (take r rows)))) h.0.moves
     turned (Some m) (z, k) =
         subst (λ ys. AllZip (IsRowTurned p) (nonzero_rows (take (r + 1) rows)) ys) (sym (map-append (λ (m : Weighed). m.entries) basis.moves (m ∷ [])))
-        (subst (λ xs. AllZip (IsRowTurned p) xs (vectors_of basis.moves ++ m.entries ∷ [])) (sym (one_more false (other_row row k.entries.not_zero)))
+        (subst (λ xs. AllZip (IsRowTurned p) xs (vectors_of basis.moves ++ m.entries ∷ [])) (sym (one_more false (is_zero-false row k.entries.not_zero)))
         (AllZip-push (IsRowTurned p) (nonzero_rows (take r rows)) (vectors_of basis.moves) row m.entries h.0.moves (record { either = k.entries.turned.either; oriented = k.entries.turned.oriented })))
 
     product : (found : Option Weighed) → ReadsRow row w p (Ok found) → weight w row ≡ pos 0

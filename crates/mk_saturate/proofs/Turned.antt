@@ -9,7 +9,7 @@ use Rattle.mk_model.specs.Pairs.{AreOrientedMoves}
 use Rattle.mk_model.specs.Walks.{IsStep, Members, Joined}
 use Rattle.mk_model.specs.Walks.Walk.{stay, step}
 use Rattle.std.proofs.lemmas.Int.{ints}
-use Rattle.mk_model.proofs.VectorAlgebra.{lengths, columns, same_vectors, negate-negate, weight-negate}
+use Rattle.mk_model.proofs.VectorAlgebra.{lengths, columns, same_vectors, negate-negate, weight-negate, add-negate}
 use Rattle.mk_model.proofs.Lists.{Contains-none, Contains-here, Contains-there, Contains-cases}
 use Rattle.mk_model.proofs.LatticeLaws.{AllColumns, InLattice-negate, InLattice-row}
 use Rattle.mk_model.proofs.NormalForms.{All-from_contains}
@@ -84,9 +84,6 @@ module _ (p : List ℕ) (n : ℕ) (rows moves : List (List ℤ)) (z : AllZip (Is
 less_negative : (x m : List ℤ) → subtract x (negate m) ≡ add x m
 less_negative x m = same_vectors _ _ (omega (arith, lengths)) (λ c. omega (arith, ints, columns))
 
-plus_negative : (x m : List ℤ) → add x (negate m) ≡ subtract x m
-plus_negative x m = same_vectors _ _ (omega (arith, lengths)) (λ c. omega (arith, ints, columns))
-
 -- a step by a row is a step by the row turned
 step_turned : {p : List ℕ} {row move : List ℤ} (moves : List ℤ → Type 0) → moves move → IsRowTurned p row move → (x y : List ℤ) → (y ≡ add x row) ⊎ (y ≡ subtract x row) → IsStep moves x y
 step_turned {p} {row} {move} moves h t x y s = (move, h, go (turned_back t) s)
@@ -94,7 +91,7 @@ step_turned {p} {row} {move} moves h t x y s = (move, h, go (turned_back t) s)
     go : (row ≡ move) ⊎ (row ≡ negate move) → (y ≡ add x row) ⊎ (y ≡ subtract x row) → (y ≡ add x move) ⊎ (y ≡ subtract x move)
     go (inl e) (inl f) = inl (f ∙ ap (add x) e)
     go (inl e) (inr f) = inr (f ∙ ap (subtract x) e)
-    go (inr e) (inl f) = inr (f ∙ ap (add x) e ∙ plus_negative x move)
+    go (inr e) (inl f) = inr (f ∙ ap (add x) e ∙ add-negate x move)
     go (inr e) (inr f) = inl (f ∙ ap (subtract x) e ∙ less_negative x move)
 
 -- what rows join, moves join among which each row stands turned

@@ -1,11 +1,12 @@
 -- Moves that are copied, turned and put at the end.
-use Rattle.std.proofs.Common.{◌≡◌, ℕ, zero, suc, ◌+◌, List, [], ◌∷◌, ◌++◌, length, take, get_or, Some, slice_get, arith, ap, sym, ◌∙◌, subst, ℤ}
+use Rattle.std.proofs.Common.{◌≡◌, ℕ, ◌+◌, List, [], ◌∷◌, ◌++◌, length, take, Some, slice_get, arith, ap, sym, ◌∙◌, subst, ℤ}
 use Rattle.std.specs.List.{AllZip}
-use Rattle.std.proofs.lemmas.List.{take_more, map-append, length-map}
+use Rattle.std.proofs.lemmas.List.{take_more, map-append}
 use Rattle.std.proofs.lemmas.List.Elements.{AllZip-push}
 use Rattle.mk_move.specs.Moves.{Weighed, IsRowOriented, IsGraded}
 use Rattle.mk_move.specs.MoveLists.{BasisView, BelongsTo, vectors_of}
 use Rattle.mk_move.proofs.Parts.{length-oriented}
+use Rattle.mk_move.proofs.MoveVectors.{vector_at, length-vectors_of}
 use Rattle.mk_model.specs.Orders.{IsRowTurned}
 use Rattle.mk_saturate.specs.Saturations.{IsTurnedOnto}
 use Rattle.mk_saturate.proofs.RowsTurned.{got_within}
@@ -21,15 +22,6 @@ turned_belongs p w row next same h g = record {
 pub turned_row : (p : List ℕ) (row entries : List ℤ) → IsRowOriented row p entries → IsRowTurned p row entries
 turned_row p row entries h = record { either = h.turned.either; oriented = h.turned.oriented }
 
--- ---- one move more
-pub entries_at : (rows : List Weighed) (k : ℕ) (row : Weighed) → slice_get rows k ≡ Some row → get_or (vectors_of rows) k [] ≡ row.entries
-entries_at [] k row e = absurd (cc)
-entries_at (r ∷ rows) zero row e = let same : r ≡ row = cc in ap (λ (m : Weighed). m.entries) same
-entries_at (r ∷ rows) (suc k) row e = entries_at rows k row e
-
-pub length-vectors : (moves : List Weighed) → length (vectors_of moves) ≡ length moves
-length-vectors moves = length-map moves (λ (m : Weighed). m.entries)
-
 pub turned_more : (p : List ℕ) (rows : List Weighed) (k : ℕ) (row : Weighed) (turned after : BasisView) → slice_get rows k ≡ Some row → turned.priority ≡ p → AllZip (IsRowTurned p) (take k (vectors_of rows)) (vectors_of turned.moves) → IsTurnedOnto turned row after → AllZip (IsRowTurned p) (take (k + 1) (vectors_of rows)) (vectors_of after.moves)
 turned_more p rows k row turned after at same z h =
     subst (λ xs. AllZip (IsRowTurned p) xs (vectors_of after.moves)) (sym front)
@@ -38,7 +30,7 @@ turned_more p rows k row turned after at same z h =
     (subst (λ (l : List ℕ). IsRowTurned l row.entries h.move.entries) same h.turned)))
   where
     front : take (k + 1) (vectors_of rows) ≡ take k (vectors_of rows) ++ row.entries ∷ []
-    front = take_more (vectors_of rows) k [] (omega (arith, got_within rows k row at, length-vectors rows)) ∙ ap (λ x. take k (vectors_of rows) ++ x ∷ []) (entries_at rows k row at)
+    front = take_more (vectors_of rows) k [] (omega (arith, got_within rows k row at, length-vectors_of rows)) ∙ ap (λ x. take k (vectors_of rows) ++ x ∷ []) (vector_at rows k row at)
 
     back : vectors_of after.moves ≡ vectors_of turned.moves ++ h.move.entries ∷ []
     back = ap (λ (b : BasisView). vectors_of b.moves) h.pushed ∙ map-append (λ (m : Weighed). m.entries) turned.moves (h.move ∷ [])

@@ -9,7 +9,7 @@ use Rattle.mk_move.specs.Moves.{Weighed}
 use Rattle.mk_move.specs.MoveLists.{BasisView, IsBasis, vectors_of}
 use Rattle.mk_move.specs.Priorities.{others}
 use Rattle.mk_core.specs.Phases.{IsCompleted}
-use Rattle.mk_core.specs.declared.phase.Job.{Job}
+use Rattle.mk_core.specs.Jobs.{JobView}
 use Rattle.mk_core.specs.declared.phase.Phase.{Phase}
 use Rattle.mk_model.specs.Orders.{IsRowTurned}
 
@@ -23,7 +23,9 @@ pub record IsSaturation (saturation : SaturationView) : Type 0 where
   pub kept : IsBasis saturation.basis
   pub columns : length saturation.left ≡ length saturation.basis.grading
   pub few : length saturation.basis.moves ≤ 65536
-  pub connected : ConnectedUpTo (length saturation.basis.grading) (vectors_of saturation.basis.moves) (is_left saturation.left) (vectors_of saturation.basis.moves)
+  pub connected :
+      ConnectedUpTo (length saturation.basis.grading) (vectors_of saturation.basis.moves) (is_left saturation.left)
+      (vectors_of saturation.basis.moves)
 
 -- the least column that is unsaturated
 pub record IsLeastLeft (left : List Bool) (column : ℕ) : Type 0 where
@@ -41,7 +43,7 @@ pub record IsTurnedOnto (basis : BasisView) (row : Weighed) (after : BasisView) 
   pub pushed : after ≡ record basis { moves = basis.moves ++ move ∷ [] }
 
 -- a job over the moves so far, along a list
-pub record IsJob (basis : BasisView) (p : List ℕ) (budget : ℕ) (job : Job) : Type 0 where
+pub record IsJob (basis : BasisView) (p : List ℕ) (budget : ℕ) (job : JobView) : Type 0 where
   pub priority : job.start.priority ≡ p
   pub grading : job.start.grading ≡ basis.grading
   pub begun : AllZip (IsRowTurned p) (vectors_of basis.moves) (vectors_of job.start.moves)
@@ -50,10 +52,11 @@ pub record IsJob (basis : BasisView) (p : List ℕ) (budget : ℕ) (job : Job) :
   pub limit : job.basis_limit ≡ 65536
 
 -- the job of the least unsaturated column, or none where no column is left
-abbrev pub IsNextJob : SaturationView → ℕ → Option Job → Type 0
+abbrev pub IsNextJob : SaturationView → ℕ → Option JobView → Type 0
 IsNextJob saturation budget None = NoneLeft saturation.left
 IsNextJob saturation budget (Some job) =
-    (column : ℕ) × IsLeastLeft saturation.left column × IsJob saturation.basis (column ∷ others column (length saturation.basis.grading)) budget job
+    (column : ℕ) × IsLeastLeft saturation.left column
+    × IsJob saturation.basis (column ∷ others column (length saturation.basis.grading)) budget job
 
 -- a phase that begins with the moves so far, along a list
 pub record IsPhaseFromBasis (basis : BasisView) (p : List ℕ) (phase : Phase) : Type 0 where

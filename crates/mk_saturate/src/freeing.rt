@@ -13,8 +13,10 @@ use mk_move::{Basis, Move, Side};
 /// Takes the columns that the moves free, one move after another, out of those that are left, and answers how many.
 pub(crate) fn free_by_moves(basis: &Basis, left: &mut [bool]) -> u32
     requires columns { length left.old ≡ length basis.now.grading }
-    requires few { length left.old < 2 ^ 32 }
-    ensures left { left.new ≡ freed_by_rows (standard (length basis.now.grading)) (vectors_of basis.now.moves) left.old }
+    requires few_columns { length left.old < 2 ^ 32 }
+    ensures left { left.new
+        ≡ freed_by_rows (standard (length basis.now.grading))
+        (vectors_of basis.now.moves) left.old }
     ensures count { length (columns_left left.old) ≡ result + length (columns_left left.new) }
 {
     let mut freed = 0;
@@ -28,8 +30,9 @@ pub(crate) fn free_by_moves(basis: &Basis, left: &mut [bool]) -> u32
 /// that. Answers how many.
 fn free_by_move(found: &Move, left: &mut [bool]) -> u32
     requires columns { length left.old ≡ length found.now.entries }
-    requires few { length left.old < 2 ^ 32 }
-    ensures left { left.new ≡ freed_by_row (standard (length found.now.entries)) found.now.entries left.old }
+    requires few_columns { length left.old < 2 ^ 32 }
+    ensures left { left.new
+        ≡ freed_by_row (standard (length found.now.entries)) found.now.entries left.old }
     ensures count { length (columns_left left.old) ≡ result + length (columns_left left.new) }
 {
     let lead = lead_side(found);
@@ -42,7 +45,7 @@ fn free_by_move(found: &Move, left: &mut [bool]) -> u32
 /// how many.
 fn free_by_side(found: &Move, side: Side, left: &mut [bool]) -> u32
     requires columns { length left.old ≡ length found.now.entries }
-    requires few { length left.old < 2 ^ 32 }
+    requires few_columns { length left.old < 2 ^ 32 }
     ensures left { left.new ≡ freed_on side found.now.entries left.old }
     ensures count { length (columns_left left.old) ≡ result + length (columns_left left.new) }
 {
@@ -69,7 +72,7 @@ fn is_part_left(found: &Move, side: Side, left: &[bool]) -> bool
 /// Takes the columns of the move's part on a side out of those that are left, and answers how many were.
 fn take_part_out(found: &Move, side: Side, left: &mut [bool]) -> u32
     requires columns { length left.old ≡ length found.now.entries }
-    requires few { length left.old < 2 ^ 32 }
+    requires few_columns { length left.old < 2 ^ 32 }
     ensures left { left.new ≡ without_support (part_of side found.now.entries) left.old }
     ensures count { length (columns_left left.old) ≡ result + length (columns_left left.new) }
 {
@@ -85,7 +88,8 @@ fn take_part_out(found: &Move, side: Side, left: &mut [bool]) -> u32
 
 /// The side of the move's lead, where the standard list orients it.
 fn lead_side(found: &Move) -> Side
-    ensures { oriented_by (standard (length found.now.entries)) found.now.entries ≡ turned_to result found.now.entries }
+    ensures { oriented_by (standard (length found.now.entries)) found.now.entries
+        ≡ turned_to result found.now.entries }
 {
     let columns = found.columns();
     for behind in 0..columns {

@@ -7,5 +7,6 @@ mod saturation;
 mod start;
 mod turning;
 
+pub use mk_core::SaturatedBasis;
 pub use saturation::Saturation;
 pub use start::start_basis;

@@ -44,9 +44,12 @@ impl Saturation {
     pub fn start(alloc: Global, lat: &Table, grading: &Grading) -> Result<Saturation, NoMemory>
         requires columns { length grading.now ≡ lat.now.columns }
         requires graded { All (λ row. weight grading.now row ≡ pos 0) (rows_of lat.now) }
-        ensures basis { IfOk result (λ saturation. IsStart (rows_of lat.now) grading.now (standard lat.now.columns) saturation.basis) }
-        ensures left { IfOk result (λ saturation. saturation.left ≡ replicate lat.now.columns true) }
-        ensures lattice { IfOk result (λ saturation. SameLattice lat.now.columns (rows_of lat.now) (vectors_of saturation.basis.moves)) }
+        ensures basis { IfOk result (λ saturation.
+            IsStart (rows_of lat.now) grading.now (standard lat.now.columns) saturation.basis) }
+        ensures left { IfOk result (λ saturation.
+            saturation.left ≡ replicate lat.now.columns true) }
+        ensures lattice { IfOk result (λ saturation.
+            SameLattice lat.now.columns (rows_of lat.now) (vectors_of saturation.basis.moves)) }
     {
         let basis = begin(alloc, lat, grading)?;
         let left = vec![in alloc; true; lat.columns() as usize]?;
@@ -66,8 +69,13 @@ impl Saturation {
     /// list orients it and then as the negative of that: where all columns of its negative part are unsaturated, those of its
     /// positive part are saturated.
     pub fn free_columns(&mut self) -> u32
-        ensures left { self.new ≡ record self.old { left = freed_by_rows (standard (length self.old.basis.grading)) (vectors_of self.old.basis.moves) self.old.left } }
-        ensures count { length (columns_left self.old.left) ≡ result + length (columns_left self.new.left) }
+        ensures left { self.new
+            ≡ record self.old {
+              left = freed_by_rows (standard (length self.old.basis.grading))
+                  (vectors_of self.old.basis.moves) self.old.left;
+            } }
+        ensures count { length (columns_left self.old.left)
+            ≡ result + length (columns_left self.new.left) }
     {
         free_by_moves(&self.basis, &mut self.left)
     }
@@ -86,9 +94,13 @@ impl Saturation {
     /// Takes what completes the next job: its moves that are not redundant are the moves from now on, and its column is
     /// saturated. After a refusal all is as before.
     pub fn accept(&mut self, completed: &Completed) -> Result<(), NoMemory>
-        requires { (column : ℕ) × IsLeastLeft self.old.left column × IsPhaseFromBasis self.old.basis (column ∷ others column (length self.old.basis.grading)) completed.now }
+        requires { (column : ℕ) × IsLeastLeft self.old.left column
+            × IsPhaseFromBasis self.old.basis (column ∷ others column
+            (length self.old.basis.grading)) completed.now }
         ensures basis { OnOk result (IsDropped self.old.basis completed.now self.new.basis) }
-        ensures left { OnOk result ((column : ℕ) × IsLeastLeft self.old.left column × (self.new.left ≡ set self.old.left column false)) }
+        ensures left { OnOk result
+            ((column : ℕ) × IsLeastLeft self.old.left column
+            × (self.new.left ≡ set self.old.left column false)) }
         ensures err { OnErr result (self.new ≡ self.old) }
     {
         let kept = needed(completed)?;
@@ -100,7 +112,8 @@ impl Saturation {
     /// The last job, along the standard list, once no column is left.
     pub fn final_job(&self, alloc: Global, budget: u64) -> Result<Job, NoMemory>
         requires { NoneLeft self.now.left }
-        ensures { IfOk result (IsJob self.now.basis (standard (length self.now.basis.grading)) budget) }
+        ensures { IfOk result
+            (IsJob self.now.basis (standard (length self.now.basis.grading)) budget) }
     {
         let priority = Priority::standard(alloc, self.basis.grading().columns())?;
         job_along(alloc, &self.basis, priority, budget)
@@ -109,7 +122,8 @@ impl Saturation {
     /// The saturated basis that completing the last job gives: its moves that are not redundant.
     pub fn finish(&self, completed: &Completed) -> Result<SaturatedBasis, NoMemory>
         requires none_left { NoneLeft self.now.left }
-        requires last { IsPhaseFromBasis self.now.basis (standard (length self.now.basis.grading)) completed.now }
+        requires last { IsPhaseFromBasis self.now.basis
+            (standard (length self.now.basis.grading)) completed.now }
         ensures { IfOk result (IsDropped self.now.basis completed.now) }
     {
         // What a saturation keeps is known once a field is used.
@@ -123,8 +137,9 @@ impl Saturation {
 fn begin(alloc: Global, lat: &Table, grading: &Grading) -> Result<Basis, NoMemory>
     requires columns { length grading.now ≡ lat.now.columns }
     requires graded { All (λ row. weight grading.now row ≡ pos 0) (rows_of lat.now) }
-    ensures start { IfOk result (λ basis. IsStart (rows_of lat.now) grading.now (standard lat.now.columns) basis) }
-    ensures few { IfOk result (λ basis. length basis.moves ≤ 4096) }
+    ensures start { IfOk result (λ basis.
+        IsStart (rows_of lat.now) grading.now (standard lat.now.columns) basis) }
+    ensures few_moves { IfOk result (λ basis. length basis.moves ≤ 4096) }
 {
     let priority = Priority::standard(alloc, lat.columns())?;
     match start_basis(alloc, lat, grading.try_copy()?, priority) {

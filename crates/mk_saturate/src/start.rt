@@ -18,7 +18,7 @@ pub fn start_basis(
     requires columns { length grading ≡ lat.now.columns }
     requires list { length priority ≡ lat.now.columns }
     ensures basis { Starts (rows_of lat.now) grading priority result }
-    ensures few { IfOk result (λ basis. length basis.moves ≤ lat.now.rows) }
+    ensures few_moves { IfOk result (λ basis. length basis.moves ≤ lat.now.rows) }
 {
     let mut basis = Basis::new(alloc, priority, grading);
     for r in 0..lat.rows() {

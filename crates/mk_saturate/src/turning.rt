@@ -6,12 +6,9 @@ ghost use Rattle.mk_model.specs.Orders.{IsRowTurned};
 ghost use Rattle.mk_saturate.specs.Saturations.{IsJob, IsTurnedOnto};
 
 use mk_core::Job;
-use mk_model::NoMemory;
+use mk_model::{MOVES_MAX, NoMemory};
 use mk_move::{Basis, Move, Priority};
 use std::alloc::Global;
-
-/// How many moves the basis of a completion may have.
-const BASIS_LIMIT: u32 = 65_536;
 
 /// The job over the moves of a basis, along a list of as many columns.
 pub(crate) fn job_along(
@@ -21,14 +18,14 @@ pub(crate) fn job_along(
     budget: u64,
 ) -> Result<Job, NoMemory>
     requires list { length priority ≡ length basis.now.grading }
-    requires few { length basis.now.moves ≤ 65536 }
+    requires few_moves { length basis.now.moves ≤ 65536 }
     ensures { IfOk result (IsJob basis.now priority budget) }
 {
     let start = turned(alloc, basis, priority)?;
     Ok(Job {
         start,
         budget,
-        basis_limit: BASIS_LIMIT,
+        basis_limit: MOVES_MAX,
     })
 }
 
@@ -37,7 +34,8 @@ fn turned(alloc: Global, basis: &Basis, priority: Priority) -> Result<Basis, NoM
     requires { length priority ≡ length basis.now.grading }
     ensures priority { IfOk result (λ turned. turned.priority ≡ priority) }
     ensures grading { IfOk result (λ turned. turned.grading ≡ basis.now.grading) }
-    ensures moves { IfOk result (λ turned. AllZip (IsRowTurned priority) (vectors_of basis.now.moves) (vectors_of turned.moves)) }
+    ensures moves { IfOk result (λ turned.
+        AllZip (IsRowTurned priority) (vectors_of basis.now.moves) (vectors_of turned.moves)) }
 {
     let mut turned = Basis::new(alloc, priority, basis.grading().try_copy()?);
     for k in 0..basis.len() {
@@ -50,7 +48,7 @@ fn turned(alloc: Global, basis: &Basis, priority: Priority) -> Result<Basis, NoM
 fn push_turned(turned: &mut Basis, row: &Move) -> Result<(), NoMemory>
     requires columns { length row.now.entries ≡ length turned.old.priority }
     requires graded { IsGraded turned.old.grading row.now }
-    requires room { length turned.old.moves + 1 < 2 ^ 32 }
+    requires few_turned { length turned.old.moves + 1 < 2 ^ 32 }
     ensures { OnOk result (IsTurnedOnto turned.old row.now turned.new) }
 {
     let mut next = row.try_copy()?;

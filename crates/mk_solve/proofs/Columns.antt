@@ -11,7 +11,7 @@ use Rattle.mk_model.specs.FreeColumns.{is_left, columns_left, freed_by_rows, bou
 use Rattle.mk_model.proofs.FreeColumns.{freed_by_turned, length-freed_by_rows}
 use Rattle.mk_move.specs.MoveLists.{BasisView, vectors_of}
 use Rattle.mk_move.specs.Priorities.{others}
-use Rattle.mk_core.specs.declared.phase.Job.{Job}
+use Rattle.mk_core.specs.Jobs.{JobView}
 use Rattle.mk_saturate.specs.Starts.{IsStart}
 use Rattle.mk_saturate.specs.Saturations.{SaturationView, IsLeastLeft, NoneLeft, IsJob, IsNextJob}
 use Rattle.mk_saturate.proofs.ColumnsLeft.{column_fewer, least_first, none_left_over, left_short}
@@ -91,13 +91,13 @@ least_is_one left column other h k = go (cases_lt column other) (cases_lt other 
 module _ (rows : List (List ℤ)) (w : List ℤ) (budget : ℕ) (saturation : SaturationView) (book : Book) (h : IsSaturating rows w budget saturation book) where
   -- ---- the next column
   -- the run up to the next column, and the lists that are left behind it
-  pub record IsAtColumn (job : Job) (column : ℕ) : Type 0 where
+  pub record IsAtColumn (job : JobView) (column : ℕ) : Type 0 where
     pub least : IsLeastLeft saturation.left column
     pub columns : length book.phases + suc (length (columns_left (set saturation.left column false))) ≤ length w
     pub over : IsJob saturation.basis (column ∷ others column (length w)) (budget - settled_of book.phases) job
     pub reached : IsReached rows w budget h.rest saturation.basis book ((column ∷ others column (length w)) ∷ lists_for (length w) (columns_left (set saturation.left column false)))
 
-  pub at_column : (job : Job) → IsNextJob saturation (budget - settled_of book.phases) (Some job) → (column : ℕ) × IsAtColumn job column
+  pub at_column : (job : JobView) → IsNextJob saturation (budget - settled_of book.phases) (Some job) → (column : ℕ) × IsAtColumn job column
   at_column job (column, least, j) = (
     column,
     record {
@@ -111,11 +111,11 @@ module _ (rows : List (List ℤ)) (w : List ℤ) (budget : ℕ) (saturation : Sa
       first : columns_left saturation.left ≡ column ∷ columns_left (set saturation.left column false)
       first = least_first saturation.left column least.left_over least.least
 
-  pub room : (job : Job) → IsNextJob saturation (budget - settled_of book.phases) (Some job) → length w ≤ 512 → length book.phases + 1 < 2 ^ 32
+  pub room : (job : JobView) → IsNextJob saturation (budget - settled_of book.phases) (Some job) → length w ≤ 512 → length book.phases + 1 < 2 ^ 32
   room job next few = let (column, at) = at_column job next in omega (arith, at.columns, few)
 
   -- ---- the column is saturated, or its phase stopped
-  pub column_done : (job : Job) → IsNextJob saturation (budget - settled_of book.phases) (Some job) → (next : SaturationView) (after : Book) → TakesPhase job saturation.basis book next.basis after →
+  pub column_done : (job : JobView) → IsNextJob saturation (budget - settled_of book.phases) (Some job) → (next : SaturationView) (after : Book) → TakesPhase job saturation.basis book next.basis after →
       IsLeastTaken saturation.left next.left → IsSaturating rows w budget next after
   column_done job n next after t (taken, least, e) = go (at_column job n)
     where
@@ -135,7 +135,7 @@ module _ (rows : List (List ℤ)) (w : List ℤ) (budget : ℕ) (saturation : Sa
           left : next.left ≡ set saturation.left column false
           left = e ∙ ap (λ c. set saturation.left c false) (least_is_one saturation.left taken column least at.least)
 
-  pub column_stopped : {upto : Option ℕ} (job : Job) → IsNextJob saturation (budget - settled_of book.phases) (Some job) → (after : Book) → StopsIn job book after → Solves (lattice_with rows w) budget upto (Err Stopped) after
+  pub column_stopped : {upto : Option ℕ} (job : JobView) → IsNextJob saturation (budget - settled_of book.phases) (Some job) → (after : Book) → StopsIn job book after → Solves (lattice_with rows w) budget upto (Err Stopped) after
   column_stopped job n after s =
       let (column, at) = at_column job n in
       stopped_solves rows w budget h.rest saturation.basis book (column ∷ others column (length w)) _ at.reached job at.over after s
@@ -144,7 +144,7 @@ module _ (rows : List (List ℤ)) (w : List ℤ) (budget : ℕ) (saturation : Sa
   pub without_memory : {upto : Option ℕ} (after : Book) → after ≡ book → Solves (lattice_with rows w) budget upto (Err Memory) after
   without_memory {upto} after e = subst (λ (b : Book). Solves (lattice_with rows w) budget upto (Err Memory) b) (sym e) (reached_solves rows w budget h.rest saturation.basis book _ h.reached)
 
-  pub column_refused : {upto : Option ℕ} (job : Job) → IsNextJob saturation (budget - settled_of book.phases) (Some job) → (next : SaturationView) (after : Book) (fault : RunStop) →
+  pub column_refused : {upto : Option ℕ} (job : JobView) → IsNextJob saturation (budget - settled_of book.phases) (Some job) → (next : SaturationView) (after : Book) (fault : RunStop) →
       TakesColumn saturation job book (Err fault) next after → Solves (lattice_with rows w) budget upto (Err fault) after
   column_refused job n next after Memory e = without_memory after e
   column_refused job n next after Stopped s = column_stopped job n after s
@@ -154,20 +154,20 @@ module _ (rows : List (List ℤ)) (w : List ℤ) (budget : ℕ) (saturation : Sa
   reached_all none =
       subst (λ columns. IsReached rows w budget h.rest saturation.basis book (lists_for (length w) columns)) (none_left_over saturation.left none) h.reached
 
-  last_job : (job : Job) → IsJob saturation.basis (standard (length saturation.basis.grading)) (budget - settled_of book.phases) job → IsJob saturation.basis (standard (length w)) (budget - settled_of book.phases) job
+  last_job : (job : JobView) → IsJob saturation.basis (standard (length saturation.basis.grading)) (budget - settled_of book.phases) job → IsJob saturation.basis (standard (length w)) (budget - settled_of book.phases) job
   last_job job j = subst (λ n. IsJob saturation.basis (standard n) (budget - settled_of book.phases) job) (ap length h.reached.grading) j
 
-  pub all_done : NoneLeft saturation.left → (job : Job) → IsJob saturation.basis (standard (length saturation.basis.grading)) (budget - settled_of book.phases) job → (saturated : BasisView) (after : Book) →
+  pub all_done : NoneLeft saturation.left → (job : JobView) → IsJob saturation.basis (standard (length saturation.basis.grading)) (budget - settled_of book.phases) job → (saturated : BasisView) (after : Book) →
       TakesPhase job saturation.basis book saturated after → IsReached rows w budget (vectors_of saturated.moves) saturated after []
   all_done none job j saturated after t =
       reached_on rows w budget h.rest saturation.basis book (standard (length w)) [] (reached_all none) job (last_job job j) saturated after t
 
-  pub last_stopped : {upto : Option ℕ} → NoneLeft saturation.left → (job : Job) → IsJob saturation.basis (standard (length saturation.basis.grading)) (budget - settled_of book.phases) job → (after : Book) →
+  pub last_stopped : {upto : Option ℕ} → NoneLeft saturation.left → (job : JobView) → IsJob saturation.basis (standard (length saturation.basis.grading)) (budget - settled_of book.phases) job → (after : Book) →
       StopsIn job book after → Solves (lattice_with rows w) budget upto (Err Stopped) after
   last_stopped none job j after s =
       stopped_solves rows w budget h.rest saturation.basis book (standard (length w)) [] (reached_all none) job (last_job job j) after s
 
-  pub last_refused : {upto : Option ℕ} → NoneLeft saturation.left → (job : Job) → IsJob saturation.basis (standard (length saturation.basis.grading)) (budget - settled_of book.phases) job →
+  pub last_refused : {upto : Option ℕ} → NoneLeft saturation.left → (job : JobView) → IsJob saturation.basis (standard (length saturation.basis.grading)) (budget - settled_of book.phases) job →
       (after : Book) (fault : RunStop) → TakesLast saturation.basis job book (Err fault) after → Solves (lattice_with rows w) budget upto (Err fault) after
   last_refused none job j after Memory e = without_memory after e
   last_refused none job j after Stopped s = last_stopped none job j after s

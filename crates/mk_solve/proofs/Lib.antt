@@ -1,4 +1,5 @@
 pub mod Faults
+pub mod FirstStarts
 pub mod Sums
 pub mod JobStops
 pub mod Reached

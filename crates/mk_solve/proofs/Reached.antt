@@ -16,11 +16,11 @@ use Rattle.mk_model.proofs.BookLaws.{saturate_push}
 use Rattle.mk_model.proofs.VectorAlgebra.{negate-negate}
 use Rattle.mk_model.proofs.LegalEvents.{phase_is_legal}
 use Rattle.mk_move.specs.MoveLists.{BasisView, vectors_of}
-use Rattle.mk_ledger.specs.Entries.{settles_of}
+use Rattle.mk_journal.specs.Entries.{settles_of}
 use Rattle.mk_ledger.specs.Halts.{stop_of}
 use Rattle.mk_core.specs.Phases.{state_of, IsLeft, IsBasisFull}
 use Rattle.mk_core.specs.JobPhases.{IsPhaseOf}
-use Rattle.mk_core.specs.declared.phase.Job.{Job}
+use Rattle.mk_core.specs.Jobs.{JobView}
 use Rattle.mk_core.specs.declared.phase.Phase.{Phase}
 use Rattle.mk_saturate.specs.Saturations.{IsJob, IsPhaseFromBasis}
 use Rattle.mk_saturate.proofs.Jobs.{phase_of_job}
@@ -71,7 +71,7 @@ abbrev pub lattice_with : List (List ℤ) → List ℤ → Lattice
 lattice_with rows w = lattice_of (length w) rows w
 
 -- ---- the phase of a job over the moves
-module _ (w : List ℤ) (rest : List (List ℤ)) (basis : BasisView) (p : List ℕ) (budget : ℕ) (job : Job) (phase : Phase)
+module _ (w : List ℤ) (rest : List (List ℤ)) (basis : BasisView) (p : List ℕ) (budget : ℕ) (job : JobView) (phase : Phase)
     (turned : AllZip IsEither rest (vectors_of basis.moves)) (same : basis.grading ≡ w) (h : IsJob basis p budget job) (from : IsPhaseOf job phase) where
   abbrev settled : ℕ
   settled = length (settles_of phase.journal)
@@ -140,7 +140,7 @@ reached_solves rows w budget rest basis book left h = record {
 }
 
 module _ (rows : List (List ℤ)) (w : List ℤ) (budget : ℕ) (rest : List (List ℤ)) (basis : BasisView) (book : Book) (p : List ℕ) (left : List (List ℕ))
-    (h : IsReached rows w budget rest basis book (p ∷ left)) (job : Job) (j : IsJob basis p (budget - settled_of book.phases) job) where
+    (h : IsReached rows w budget rest basis book (p ∷ left)) (job : JobView) (j : IsJob basis p (budget - settled_of book.phases) job) where
   along : (phase : Phase) → IsPhaseOf job phase → IsPhaseAlong (length w) rest p (phase_as phase)
   along phase from = phase_along w rest basis p (budget - settled_of book.phases) job phase h.turned h.grading j from
 

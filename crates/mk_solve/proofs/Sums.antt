@@ -2,7 +2,7 @@
 use Rattle.std.proofs.Common.{◌≡◌, ℕ, ◌+◌, ◌<◌, ◌^◌, List, [], ◌∷◌, ◌++◌, length, arith, refl, ap, length-append}
 use Rattle.std.proofs.lemmas.List.{length-map}
 use Rattle.mk_model.specs.Books.{settled_in}
-use Rattle.mk_ledger.specs.Entries.{settle_of}
+use Rattle.mk_journal.specs.Entries.{settle_of}
 use Rattle.mk_core.specs.declared.phase.Phase.{Phase}
 use Rattle.mk_solve.specs.Books.{settled_of, IsBookKept}
 

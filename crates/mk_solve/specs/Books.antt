@@ -6,7 +6,7 @@ use Rattle.mk_model.specs.Books.PlainPlace.{AtPair, AtTail, AtWeight}
 use Rattle.mk_model.specs.Books.PlainStop.{Overflow as PlainOverflow, Budget as PlainBudget, Full as PlainFull}
 use Rattle.mk_model.specs.CoreStates.{pair_of}
 use Rattle.mk_move.specs.MoveLists.{BasisView, vectors_of}
-use Rattle.mk_ledger.specs.Entries.{settles_of}
+use Rattle.mk_journal.specs.Entries.{settles_of}
 use Rattle.mk_ledger.specs.Halts.{stop_of}
 use Rattle.mk_core.specs.declared.phase.Phase.{Phase}
 use Rattle.mk_project.specs.declared.fault.InputFault.{InputFault}

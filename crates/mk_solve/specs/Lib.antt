@@ -1,4 +1,5 @@
 pub mod Books
 pub mod Solutions
+pub mod FirstStarts
 pub mod Steps
 pub mod Crews

@@ -24,6 +24,22 @@ pub record KeepsBases (w : List ℤ) (book : Book) : Type 0 where
   pub phases : All (IsPhaseKept w) book.phases
   pub reduced : IfSome book.reduced (λ basis. IsReducedList basis × (basis.grading ≡ w))
 
+-- ---- what the book says of a lattice
+-- every phase is ended, and the reduced basis is made
+pub record BookCompletes (book : Book) (lattice : Lattice) : Type 0 where
+  pub bases : KeepsBases lattice.grading book
+  pub complete : BookIsComplete lattice (book_as book)
+
+-- the phases that stand in it are ended
+pub record BookBegins (book : Book) (lattice : Lattice) : Type 0 where
+  pub bases : KeepsBases lattice.grading book
+  pub under_way : BookIsUnderWay lattice (book_as book)
+
+-- the stop has its cause in the phases or in the reduced basis, within the budget
+pub record BookStops (budget : ℕ) (book : Book) (stop : BookStop) (lattice : Lattice) : Type 0 where
+  pub bases : KeepsBases lattice.grading book
+  pub cause : HasStopped lattice budget (book_as book) (stop_as stop)
+
 -- The list is the one answer up to the bound that the lattice has, each move with its weight, and the book is done with it.
 pub record IsSolved (lattice : Lattice) (upto : Option ℕ) (book : Book) (list : MoveListView) : Type 0 where
   pub done : BookIsComplete lattice (book_as book)
@@ -35,10 +51,12 @@ pub record IsSolved (lattice : Lattice) (upto : Option ℕ) (book : Book) (list 
 -- what stands in it was done. No cause is given for want of memory.
 abbrev pub EndsWith : Lattice → ℕ → Option ℕ → Result MoveListView RunStop → Book → Type 0
 EndsWith lattice budget upto (Ok list) book = (book.stop ≡ None) × IsSolved lattice upto book list
-EndsWith lattice budget upto (Err Stopped) book = (stop : BookStop) × (book.stop ≡ Some stop) × HasStopped lattice budget (book_as book) (stop_as stop)
+EndsWith lattice budget upto (Err Stopped) book =
+    (stop : BookStop) × (book.stop ≡ Some stop) × HasStopped lattice budget (book_as book) (stop_as stop)
 EndsWith lattice budget upto (Err Memory) book = (book.stop ≡ None) × BookIsUnderWay lattice (book_as book)
 
--- Solving a lattice up to a bound: the input has no fault, no more pairs are settled than the budget has, and the end has its cause in the book.
+-- Solving a lattice up to a bound: the input has no fault, no more pairs are settled than the budget has, and the end has its cause in the
+-- book.
 pub record Solves (lattice : Lattice) (budget : ℕ) (upto : Option ℕ) (result : Result MoveListView RunStop) (book : Book) : Type 0 where
   pub input : book.input ≡ None
   pub settled : settled_of book.phases ≤ budget
@@ -49,4 +67,5 @@ pub record Solves (lattice : Lattice) (budget : ℕ) (upto : Option ℕ) (result
 -- the run, unless it stopped by an entry out of range or a full basis.
 abbrev pub StopsByBudget : ℕ → Result MoveListView RunStop → Book → Type 0
 StopsByBudget budget result book =
-    IsBudgetUsed budget (book_as book) → IsNoOtherStop (option_map stop_as book.stop) → (result ≡ Err Stopped) × (book.stop ≡ Some (Budget budget))
+    IsBudgetUsed budget (book_as book) → IsNoOtherStop (option_map stop_as book.stop)
+    → (result ≡ Err Stopped) × (book.stop ≡ Some (Budget budget))

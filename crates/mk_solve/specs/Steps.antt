@@ -13,7 +13,7 @@ use Rattle.mk_ledger.specs.Halts.{stop_of}
 use Rattle.mk_ledger.specs.declared.halt.OverflowStop.{OverflowStop}
 use Rattle.mk_core.specs.Phases.{state_of, IsLeft, IsBasisFull}
 use Rattle.mk_core.specs.JobPhases.{IsPhaseOf, IsUsedUp, CompletesJob}
-use Rattle.mk_core.specs.declared.phase.Job.{Job}
+use Rattle.mk_core.specs.Jobs.{JobView}
 use Rattle.mk_core.specs.declared.phase.Phase.{Phase}
 use Rattle.mk_saturate.specs.Saturations.{SaturationView, IsLeastLeft, IsDropped}
 use Rattle.mk_inter.specs.Tails.{IsReducedList}
@@ -38,16 +38,18 @@ KeepsStop before phase stop Stopped after = after ≡ stopped_at before phase st
 KeepsStop before phase stop Memory after = after ≡ before
 
 -- Why the phase of a number stops, where the phases up to it settled so many pairs.
-abbrev pub IsPhaseStop : Job → ℕ → ℕ → Phase → BookStop → Type 0
+abbrev pub IsPhaseStop : JobView → ℕ → ℕ → Phase → BookStop → Type 0
 IsPhaseStop job number settled phase (Overflow (Pair n) stop) =
-    (n ≡ number) × IsLeft phase (stop_of stop).pair × IsPairOverflow (vectors_of phase.basis.moves) (stop_of stop) × (length phase.journal < job.budget)
+    (n ≡ number) × IsLeft phase (stop_of stop).pair × IsPairOverflow (vectors_of phase.basis.moves) (stop_of stop)
+    × (length phase.journal < job.budget)
 IsPhaseStop job number settled phase (Overflow (Tail index) stop) = ⊥
 IsPhaseStop job number settled phase (Overflow Degree stop) = ⊥
 IsPhaseStop job number settled phase (Budget n) = (n ≡ settled) × IsUsedUp job phase
-IsPhaseStop job number settled phase (BasisFull n i j) = (n ≡ number) × IsBasisFull job.basis_limit phase (pair_of i j) × (length phase.journal < job.budget)
+IsPhaseStop job number settled phase (BasisFull n i j) =
+    (n ≡ number) × IsBasisFull job.basis_limit phase (pair_of i j) × (length phase.journal < job.budget)
 
 -- the job's phase stopped: the book keeps it, and the stop with its cause
-pub record StopsIn (job : Job) (before after : Book) : Type 0 where
+pub record StopsIn (job : JobView) (before after : Book) : Type 0 where
   pub phase : Phase
   pub stop : BookStop
   pub from : IsPhaseOf job phase
@@ -55,13 +57,13 @@ pub record StopsIn (job : Job) (before after : Book) : Type 0 where
   pub kept : after ≡ stopped_at before phase stop
 
 -- the completed phase of a job, or why it stopped
-abbrev pub Completes : Job → Book → Result Phase RunStop → Book → Type 0
+abbrev pub Completes : JobView → Book → Result Phase RunStop → Book → Type 0
 Completes job before (Ok phase) after = CompletesJob job (Ok phase) × (after ≡ before)
 Completes job before (Err Memory) after = after ≡ before
 Completes job before (Err Stopped) after = StopsIn job before after
 
 -- the job's phase is completed: the book keeps it, and what it leaves of the moves is taken
-pub record TakesPhase (job : Job) (moves : BasisView) (before : Book) (taken : BasisView) (after : Book) : Type 0 where
+pub record TakesPhase (job : JobView) (moves : BasisView) (before : Book) (taken : BasisView) (after : Book) : Type 0 where
   pub phase : Phase
   pub from : IsPhaseOf job phase
   pub ended : IsEnded (state_of phase job.budget job.basis_limit)
@@ -73,13 +75,13 @@ abbrev pub IsLeastTaken : List Bool → List Bool → Type 0
 IsLeastTaken left after = (column : ℕ) × IsLeastLeft left column × (after ≡ set left column false)
 
 -- a column is saturated by the phase of a job, or the job's phase stopped
-abbrev pub TakesColumn : SaturationView → Job → Book → Result Unit RunStop → SaturationView → Book → Type 0
+abbrev pub TakesColumn : SaturationView → JobView → Book → Result Unit RunStop → SaturationView → Book → Type 0
 TakesColumn now job before (Ok done) next after = TakesPhase job now.basis before next.basis after × IsLeastTaken now.left next.left
 TakesColumn now job before (Err Memory) next after = after ≡ before
 TakesColumn now job before (Err Stopped) next after = StopsIn job before after
 
 -- the last phase leaves the saturated basis, or it stopped
-abbrev pub TakesLast : BasisView → Job → Book → Result BasisView RunStop → Book → Type 0
+abbrev pub TakesLast : BasisView → JobView → Book → Result BasisView RunStop → Book → Type 0
 TakesLast moves job before (Ok saturated) after = TakesPhase job moves before saturated after
 TakesLast moves job before (Err Memory) after = after ≡ before
 TakesLast moves job before (Err Stopped) after = StopsIn job before after

@@ -53,7 +53,8 @@ impl Model for RunBook {
 
     ghost Value = { Book };
 
-    ghost view = { λ b. record { input = b.fault; phases = b.phases.items; reduced = b.reduced; stop = b.stop } };
+    ghost view = { λ b.
+        record { input = b.fault; phases = b.phases.items; reduced = b.reduced; stop = b.stop } };
 
     ghost invariant = { λ b. IsBookKept b.settled b.phases.items };
 }
@@ -88,9 +89,10 @@ impl RunBook {
 
     /// Puts a phase at the end. After a refusal the book is as before.
     pub(crate) fn push_phase(&mut self, phase: Phase) -> Result<(), NoMemory>
-        requires room { length self.old.phases + 1 < 2 ^ 32 }
-        requires sum { settled_of self.old.phases + length phase.journal < 2 ^ 64 }
-        ensures ok { OnOk result (self.new ≡ record self.old { phases = self.old.phases ++ phase ∷ [] }) }
+        requires few_phases { length self.old.phases + 1 < 2 ^ 32 }
+        requires few_settled { settled_of self.old.phases + length phase.journal < 2 ^ 64 }
+        ensures ok { OnOk result
+            (self.new ≡ record self.old { phases = self.old.phases ++ phase ∷ [] }) }
         ensures err { OnErr result (self.new ≡ self.old) }
     {
         let settled = phase.journal.len();
@@ -142,14 +144,16 @@ impl RunBook {
 
     /// The reduced basis, once it is made.
     pub fn reduced(&self) -> Option<&ReducedBasis>
-        ensures { MatchOption result (self.now.reduced ≡ None) (λ basis. self.now.reduced ≡ Some basis.now) }
+        ensures { MatchOption result (self.now.reduced ≡ None) (λ basis.
+            self.now.reduced ≡ Some basis.now) }
     {
         self.reduced.as_ref()
     }
 
     /// Why the run stopped.
     pub fn stop(&self) -> Option<&BookStop>
-        ensures { MatchOption result (self.now.stop ≡ None) (λ stop. self.now.stop ≡ Some stop.now) }
+        ensures { MatchOption result (self.now.stop ≡ None) (λ stop.
+            self.now.stop ≡ Some stop.now) }
     {
         self.stop.as_ref()
     }

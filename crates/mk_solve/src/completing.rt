@@ -18,8 +18,8 @@ pub(crate) fn complete<C: Crew>(
     requires ready { C.ready crew.now }
     requires start { length job.start.moves ≤ job.basis_limit }
     requires limit { job.basis_limit ≤ 65536 }
-    requires room { length book.old.phases + 1 < 2 ^ 32 }
-    requires sum { settled_of book.old.phases + job.budget < 2 ^ 64 }
+    requires few_phases { length book.old.phases + 1 < 2 ^ 32 }
+    requires few_settled { settled_of book.old.phases + job.budget < 2 ^ 64 }
     ensures { Completes job book.old result book.new }
 {
     match crew.complete(alloc, job, book.last_phase()) {
@@ -49,8 +49,8 @@ pub(crate) fn complete<C: Crew>(
 
 /// Keeps the phase that stopped, and then its stop: neither where there is no memory.
 fn keep_stop(book: &mut RunBook, phase: Phase, stop: BookStop) -> RunStop
-    requires room { length book.old.phases + 1 < 2 ^ 32 }
-    requires sum { settled_of book.old.phases + length phase.journal < 2 ^ 64 }
+    requires few_phases { length book.old.phases + 1 < 2 ^ 32 }
+    requires few_settled { settled_of book.old.phases + length phase.journal < 2 ^ 64 }
     ensures { KeepsStop book.old phase stop result book.new }
 {
     match book.push_phase(phase) {

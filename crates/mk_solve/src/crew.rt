@@ -26,8 +26,8 @@ pub trait Crew {
     /// The crew with so many workers, from 1 to 64, where it may have several.
     fn with_workers(self, workers: u32) -> Self
         requires ready { ready self }
-        requires some { 1 ≤ workers }
-        requires few { workers ≤ 64 }
+        requires some_workers { 1 ≤ workers }
+        requires few_workers { workers ≤ 64 }
         ensures ready { ready result };
 
     /// Completes the start of a job, as `complete_alone` does. The last phase, where there is one, tells how long pairs took.
@@ -36,13 +36,17 @@ pub trait Crew {
         requires start { length job.start.moves ≤ job.basis_limit }
         requires limit { job.basis_limit ≤ 65536 }
         ensures answer { CompletesJob job result }
-        ensures over_budget { IfSome (phase_in result) (λ phase. AnswersOverBudget result ↔ IsUsedUp job phase) };
+        ensures over_budget { IfSome (phase_in result) (λ phase.
+            AnswersOverBudget result ↔ IsUsedUp job phase) };
 
     /// The reduced basis of what a saturated one spans, as `reduce_tails` makes it.
     fn reduce_tails(&self, alloc: Global, basis: &SaturatedBasis) -> Result<ReducedBasis, TailFault>
         requires ready { ready self.now }
-        ensures reduced { IfOk result (λ reduced. IsReducedBasis (lattice_spanned basis.now) (vectors_of reduced.moves)) }
-        ensures lattice { IfOk result (λ reduced. SameLattice (length basis.now.grading) (vectors_of basis.now.moves) (vectors_of reduced.moves)) }
+        ensures reduced { IfOk result (λ reduced.
+            IsReducedBasis (lattice_spanned basis.now) (vectors_of reduced.moves)) }
+        ensures lattice { IfOk result (λ reduced.
+            SameLattice (length basis.now.grading) (vectors_of basis.now.moves)
+            (vectors_of reduced.moves)) }
         ensures grading { IfOk result (λ reduced. reduced.grading ≡ basis.now.grading) }
         ensures kept { IfOk result IsReducedList }
         ensures refused { IfErr result (IsTailFault basis.now) };
@@ -57,7 +61,8 @@ pub trait Crew {
     ) -> Result<MinimalList, MinimiseFault>
         requires ready { ready self.now }
         requires grading { grading.now ≡ basis.now.grading }
-        ensures answer { IfOk result (λ list. IsAnswer (lattice_spanned basis.now) upto (vectors_of list.moves)) }
+        ensures answer { IfOk result (λ list.
+            IsAnswer (lattice_spanned basis.now) upto (vectors_of list.moves)) }
         ensures columns { IfOk result (λ list. list.columns ≡ length basis.now.grading) }
         ensures graded { IfOk result (λ list. All (IsGraded basis.now.grading) list.moves) }
         ensures refused { IfErr result (IsMinimiseFault basis.now upto) };

@@ -5,11 +5,13 @@
 mod book;
 mod completing;
 mod crew;
+mod laws;
 mod solving;
 mod workers;
 
 pub use book::{BookStop, OverflowPlace, RunBook};
 pub use crew::{Crew, OneWorker};
+pub use laws::first_start_tells_the_lattice;
 pub use mk_core::{Journal, JournalEntry, Kind, Phase};
 pub use mk_ledger::OverflowStop;
 pub use mk_minimise::MinimalList;

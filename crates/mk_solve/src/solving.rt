@@ -82,18 +82,19 @@ pub fn solve_shared<G: Gate + Sync, R: Threads + Wait + Sync>(
     requires book { book.old ≡ empty_book }
     requires columns { length grading.now ≡ lat.now.columns }
     requires graded { All (λ row. weight grading.now row ≡ pos 0) (rows_of lat.now) }
-    requires some { 1 ≤ workers }
-    requires few { workers ≤ 64 }
+    requires some_workers { 1 ≤ workers }
+    requires few_workers { workers ≤ 64 }
     ensures solved { Solves (lattice_of_table lat.now grading.now) budget upto result book.new }
     ensures budget { StopsByBudget budget result book.new }
 {
     let complete = |job: Job, workers: u32| -> Result<Completed, Stopped>
         requires start { length job.start.moves ≤ job.basis_limit }
         requires limit { job.basis_limit ≤ 65536 }
-        requires some { 1 ≤ workers }
-        requires few { workers ≤ 64 }
+        requires some_workers { 1 ≤ workers }
+        requires few_workers { workers ≤ 64 }
         ensures answer { CompletesJob job result }
-        ensures over_budget { IfSome (phase_in result) (λ phase. AnswersOverBudget result ↔ IsUsedUp job phase) }
+        ensures over_budget { IfSome (phase_in result) (λ phase.
+            AnswersOverBudget result ↔ IsUsedUp job phase) }
     { complete_shared(rt, alloc, job, workers, gate) };
     let crew = Workers::new(rt, complete).with_workers(workers);
     solve(alloc, &crew, lat, grading, budget, upto, book)
@@ -138,8 +139,8 @@ fn saturate_column<C: Crew>(
 ) -> Result<(), RunStop>
     requires ready { C.ready crew.now }
     requires next { IsNextJob saturation.old job.budget (Some job) }
-    requires room { length book.old.phases + 1 < 2 ^ 32 }
-    requires sum { settled_of book.old.phases + job.budget < 2 ^ 64 }
+    requires few_phases { length book.old.phases + 1 < 2 ^ 32 }
+    requires few_settled { settled_of book.old.phases + job.budget < 2 ^ 64 }
     ensures { TakesColumn saturation.old job book.old result saturation.new book.new }
 {
     let completed = complete(alloc, crew, job, book)?;
@@ -158,9 +159,10 @@ fn finish<C: Crew>(
 ) -> Result<SaturatedBasis, RunStop>
     requires ready { C.ready crew.now }
     requires none_left { NoneLeft saturation.now.left }
-    requires last { IsJob saturation.now.basis (standard (length saturation.now.basis.grading)) job.budget job }
-    requires room { length book.old.phases + 1 < 2 ^ 32 }
-    requires sum { settled_of book.old.phases + job.budget < 2 ^ 64 }
+    requires last { IsJob saturation.now.basis
+        (standard (length saturation.now.basis.grading)) job.budget job }
+    requires few_phases { length book.old.phases + 1 < 2 ^ 32 }
+    requires few_settled { settled_of book.old.phases + job.budget < 2 ^ 64 }
     ensures { TakesLast saturation.now.basis job book.old result book.new }
 {
     let completed = complete(alloc, crew, job, book)?;

@@ -23,8 +23,8 @@ const FIRST_MOVES: u32 = 64;
 const LONG_COLUMNS: u32 = 64;
 
 /// Several workers, and how they complete a job: `complete` takes the job and their number. A phase is shared by them where the one
-/// before shows that its pairs take long, and the first where most of its pairs have leads with a column in common; the others are one
-/// worker's.
+/// before shows that its pairs take long, and the first where half of its pairs or more have leads with a column in common; the others
+/// are one worker's. A phase has no more of them than pairs of its first moves have such leads.
 #[derive(Drop)]
 pub struct Workers<'a, R, F> {
     rt: &'a R,
@@ -48,7 +48,9 @@ impl<'a, R: Threads + Sync, F: Fn(Job, u32) -> Result<Completed, Stopped>> Worke
 
 impl<'a, R: Threads + Sync, F: Fn(Job, u32) -> Result<Completed, Stopped>> Crew
     for Workers<'a, R, F> {
-    ghost ready = { λ w. IsSync R.row × (1 ≤ w.count) × (w.count ≤ 64) × CompletesBy (F.pre w.complete) (F.post w.complete) };
+    ghost ready = { λ w.
+        IsSync R.row × (1 ≤ w.count) × (w.count ≤ 64)
+        × CompletesBy (F.pre w.complete) (F.post w.complete) };
 
     fn with_workers(self, workers: u32) -> Workers<'a, R, F> {
         Workers {
@@ -64,14 +66,11 @@ impl<'a, R: Threads + Sync, F: Fn(Job, u32) -> Result<Completed, Stopped>> Crew
         job: Job,
         last: Option<&Phase>,
     ) -> Result<Completed, Stopped> {
-        let short = match last {
-            Some(phase) => is_short(phase),
-            None => are_mostly_disjoint(&job.start),
-        };
-        if self.count == 1 || short {
+        let workers = workers_for(self.count, &job.start, last);
+        if workers == 1 {
             OneWorker.complete(alloc, job, last)
         } else {
-            (self.complete)(job, self.count)
+            (self.complete)(job, workers)
         }
     }
 
@@ -94,35 +93,60 @@ impl<'a, R: Threads + Sync, F: Fn(Job, u32) -> Result<Completed, Stopped>> Crew
     }
 }
 
-/// Have more than half of the pairs of the first moves disjoint leads?
-fn are_mostly_disjoint(basis: &Basis) -> bool {
-    let end = basis.len().min(FIRST_MOVES);
-    let mut pairs = 0u32;
-    let mut disjoint = 0u32;
-    for second in 0..end {
-        pairs = pairs.saturating_add(second);
-        disjoint = disjoint.saturating_add(disjoint_before(basis, second));
-    }
-    disjoint > pairs / 2
+/// How many of so many workers share a phase: one where its pairs don't take long, as the phase before shows, or for the first phase
+/// its first moves; and no more than pairs of its first moves have leads with a column in common.
+fn workers_for(count: u32, start: &Basis, last: Option<&Phase>) -> u32
+    requires { 1 ≤ count }
+    ensures some_workers { 1 ≤ result }
+    ensures few_workers { result ≤ count }
+{
+    let shared = match last {
+        Some(phase) if !is_long(phase) => 0,
+        Some(_) => meeting_pairs(start),
+        None => pairs_where_most_meet(start),
+    };
+    shared.clamp(1, count)
 }
 
-/// How many moves before this one have a lead that is disjoint from its lead?
-fn disjoint_before(basis: &Basis, second: u32) -> u32
+/// How many pairs of the first moves have leads with a column in common, where half of these pairs or more have; else none.
+fn pairs_where_most_meet(basis: &Basis) -> u32 {
+    let end = basis.len().min(FIRST_MOVES);
+    let pairs = end * end.saturating_sub(1) / 2;
+    let meeting = meeting_pairs(basis);
+    if meeting >= pairs - pairs / 2 {
+        meeting
+    } else {
+        0
+    }
+}
+
+/// How many pairs of the first moves have leads with a column in common?
+fn meeting_pairs(basis: &Basis) -> u32 {
+    let end = basis.len().min(FIRST_MOVES);
+    let mut meeting = 0u32;
+    for second in 1..end {
+        meeting = meeting.saturating_add(meeting_before(basis, second));
+    }
+    meeting
+}
+
+/// How many moves before this one have a lead with a column in common with its lead?
+fn meeting_before(basis: &Basis, second: u32) -> u32
     requires { second < length basis.now.moves }
 {
-    let mut disjoint = 0u32;
+    let mut meeting = 0u32;
     for first in 0..second {
-        if coprime_leads(basis.move_at(first), basis.move_at(second)) {
-            disjoint = disjoint.saturating_add(1);
+        if !coprime_leads(basis.move_at(first), basis.move_at(second)) {
+            meeting = meeting.saturating_add(1);
         }
     }
-    disjoint
+    meeting
 }
 
-/// Has a phase short pairs: of few columns, or few of the last ones were reduced?
-fn is_short(phase: &Phase) -> bool {
+/// Has a phase pairs that take long: of many columns, and half of the last ones or more were reduced? One without pairs has none.
+fn is_long(phase: &Phase) -> bool {
     if phase.basis.grading().columns() < LONG_COLUMNS {
-        return true;
+        return false;
     }
     let end = phase.journal.len();
     let from = end.saturating_sub(LAST_PAIRS);
@@ -132,5 +156,6 @@ fn is_short(phase: &Phase) -> bool {
             reduced += 1;
         }
     }
-    reduced < (end - from) / 2
+    let looked = end - from;
+    reduced > 0 && reduced >= looked - looked / 2
 }

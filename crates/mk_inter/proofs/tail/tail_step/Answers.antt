@@ -3,7 +3,8 @@ use Rattle.mk_model.specs.Orders.{lead, tail}
 use Rattle.mk_model.specs.Reductions.{Divides}
 use Rattle.mk_move.proofs.Belongings.{BelongsTo-lead}
 use Rattle.mk_move.proofs.Entries.{entry_read}
-use Rattle.mk_inter.proofs.TailSteps.{vector_at, stepped, stepped_below, never_zero, step_fault, taken_off}
+use Rattle.mk_move.proofs.MoveVectors.{vector_at}
+use Rattle.mk_inter.proofs.TailSteps.{stepped, stepped_below, never_zero, step_fault, taken_off}
 use Rattle.mk_inter.proofs.tail.tail_step.Goals as goal
 
 pub added_times-times-requires-clause-not_zero : goal.added_times-times-requires-clause-not_zero

@@ -5,8 +5,8 @@ use Rattle.std.specs.List.{AllZip}
 use Rattle.mk_model.specs.CoreStates.{move_at}
 use Rattle.mk_move.specs.Moves.{Weighed}
 use Rattle.mk_move.specs.MoveLists.{vectors_of}
+use Rattle.mk_move.proofs.MoveVectors.{length-vectors_of}
 use Rattle.mk_inter.specs.TailSteps.{IsReducedFrom}
-use Rattle.mk_inter.proofs.TailSteps.{length-vectors_of}
 use Rattle.mk_inter.proofs.tails.all_tails.Goals as goal
 
 pub loop-index-preserved : goal.loop-index-preserved

@@ -6,8 +6,8 @@ pub basis_of-requires-clause-belongs : goal.basis_of-requires-clause-belongs
 basis_of-requires-clause-belongs c =
     belonging_moves c.args.basis.now c.args.basis.now refl c.requires.saturated c.args.tails.items c.sort_moves.new.moves.items c.requires.tails c.in_ok-sort_moves.ensures.same
 
-pub basis_of-requires-clause-few : goal.basis_of-requires-clause-few
-basis_of-requires-clause-few c =
+pub basis_of-requires-clause-few_moves : goal.basis_of-requires-clause-few_moves
+basis_of-requires-clause-few_moves c =
     few_moves c.args.basis.now c.args.basis.now refl c.requires.saturated c.args.tails.items c.sort_moves.new.moves.items c.requires.tails c.in_ok-sort_moves.ensures.same
 
 pub invariant_of-result : goal.invariant_of-result

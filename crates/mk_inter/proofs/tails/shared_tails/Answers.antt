@@ -1,4 +1,4 @@
-use Rattle.std.proofs.Common.{◌≡◌, ◌+◌, ◌-◌, ◌<◌, ℕ, List, [], length, Result, IfOk, IfErr, ap, refl, ◌∙◌, arith, subst}
+use Rattle.std.proofs.Common.{◌≡◌, ◌+◌, ◌-◌, ◌<◌, ℕ, List, [], length, Result, IfOk, IfErr, ap, ◌∙◌, arith, subst}
 use Rattle.std.specs.List.{AllZip, range_with_len}
 use Rattle.rayon.specs.Numbers.{nat_range}
 use Rattle.rayon.proofs.ListFacts.{IfOk-then}
@@ -6,11 +6,11 @@ use Rattle.rayon.proofs.ToStd.{nat_range-All}
 use Rattle.mk_model.specs.CoreStates.{move_at}
 use Rattle.mk_move.specs.Moves.{Weighed}
 use Rattle.mk_move.specs.MoveLists.{BasisView, vectors_of}
+use Rattle.mk_move.proofs.MoveVectors.{length-vectors_of}
 use Rattle.mk_inter.specs.declared.tails.TailFault.{TailFault}
 use Rattle.mk_inter.specs.Tails.{IsTailFault}
 use Rattle.mk_inter.specs.TailSteps.{IsReducedFrom}
 use Rattle.mk_inter.proofs.Collected.{collected_values, collected_fault, same_fault, places_zip}
-use Rattle.mk_inter.proofs.TailSteps.{length-vectors_of}
 use Rattle.mk_inter.proofs.tails.shared_tails.Goals as goal
 use Rattle.mk_inter.proofs.tails.shared_tails.Goals.{In_ok-tails}
 

@@ -18,7 +18,7 @@ loop-alloc-preserved g c =
       light = λ k l. up_to_more basis c.requires.reduced c.args.upto start end c.loop-alloc.invariant.light here run k (omega (arith, l, count));
       chosen = subst (λ k. AreChosen (length basis.grading) basis.grading (vectors_of basis.moves) k (vectors_of c.choose.new.chosen.items)) (sym count) c.in_ok-choose.ensures.chosen;
       belongs = c.in_ok-choose.ensures.belongs;
-      few = omega (arith, count, c.in_ok-choose.ensures.few);
+      few = omega (arith, count, c.in_ok-choose.ensures.few_chosen);
     }
 
 pub returns-clause-chosen : goal.returns-clause-chosen

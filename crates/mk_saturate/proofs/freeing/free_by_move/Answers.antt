@@ -7,7 +7,7 @@ use Rattle.mk_saturate.proofs.FreedMoves.{freed_both}
 use Rattle.mk_saturate.proofs.freeing.free_by_move.Goals as goal
 
 pub overflow_add-result : goal.overflow_add-result
-overflow_add-result c = omega (arith, c.free_by_side-first.ensures.count, c.free_by_side-second.ensures.count, left_short c.args.left.now, c.requires.few)
+overflow_add-result c = omega (arith, c.free_by_side-first.ensures.count, c.free_by_side-second.ensures.count, left_short c.args.left.now, c.requires.few_columns)
 
 pub returns-clause-left : goal.returns-clause-left
 returns-clause-left c =

@@ -8,7 +8,7 @@ use Rattle.mk_saturate.proofs.FreedMoves.{freed_more}
 use Rattle.mk_saturate.proofs.freeing.free_by_moves.Goals as goal
 
 pub overflow_add-freed : goal.overflow_add-freed
-overflow_add-freed c = omega (arith, c.loop-k.invariant.count, c.free_by_move-freed.ensures.count, left_short c.args.left.now, c.requires.few)
+overflow_add-freed c = omega (arith, c.loop-k.invariant.count, c.free_by_move-freed.ensures.count, left_short c.args.left.now, c.requires.few_columns)
 
 pub loop-k-preserved : goal.loop-k-preserved
 loop-k-preserved c =

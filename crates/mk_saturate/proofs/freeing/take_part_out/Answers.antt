@@ -9,7 +9,7 @@ use Rattle.mk_saturate.proofs.freeing.take_part_out.Goals.{then-left-column+then
 
 pub overflow_add-taken : goal.overflow_add-taken
 overflow_add-taken c =
-    omega (arith, c.loop-column.invariant.count, left_short c.args.left.now, column_fewer c.loop-column.left c.loop-column.column c.if-left-column.true, c.requires.few)
+    omega (arith, c.loop-column.invariant.count, left_short c.args.left.now, column_fewer c.loop-column.left c.loop-column.column c.if-left-column.true, c.requires.few_columns)
 
 pub loop-column-preserved : goal.loop-column-preserved
 loop-column-preserved c =

@@ -1,10 +1,11 @@
 use Rattle.std.proofs.Common.{◌+◌, ◌≤◌, length, Ok, ap, ◌∙◌, sym, subst, arith, List, ℤ, ℕ}
 use Rattle.std.proofs.lemmas.List.{take_all}
 use Rattle.mk_model.specs.Tables.{rows_of}
+use Rattle.mk_model.proofs.TableRows.{length-cut}
 use Rattle.mk_move.specs.Moves.{ReadsRow}
 use Rattle.mk_move.specs.MoveLists.{BasisView}
 use Rattle.mk_saturate.specs.Starts.{Starts}
-use Rattle.mk_saturate.proofs.RowsTurned.{length-cut, row_taken, length-with_move, puts_on}
+use Rattle.mk_saturate.proofs.RowsTurned.{row_taken, length-with_move, puts_on}
 use Rattle.mk_saturate.proofs.start.start_basis.Goals as goal
 
 pub put-requires : goal.put-requires

@@ -2,7 +2,7 @@ use Rattle.std.proofs.Common.{◌-◌, ◌∙◌, length, sym, subst, Some, Opti
 use Rattle.mk_model.specs.Orders.{standard}
 use Rattle.mk_model.specs.Tables.{rows_of}
 use Rattle.mk_move.specs.MoveLists.{vectors_of}
-use Rattle.mk_core.specs.declared.phase.Job.{Job}
+use Rattle.mk_core.specs.Jobs.{JobView}
 use Rattle.mk_saturate.specs.Saturations.{NoneLeft, IsJob, IsNextJob}
 use Rattle.mk_solve.specs.Books.{Book, settled_of}
 use Rattle.mk_solve.specs.declared.solving.RunStop.TheVariants.{Memory}
@@ -20,7 +20,7 @@ use Rattle.mk_solve.proofs.solving.solve.Goals.{In-Some, In_ok-saturate_column, 
 next_job : (g : Over) (c : In-Some g) → IsNextJob c.loop-saturation.saturation (c.args.budget - settled_of c.loop-saturation.book.phases) (Some c.in-Some.job)
 next_job g c =
     subst (λ n. IsNextJob c.loop-saturation.saturation (c.args.budget - n) (Some c.in-Some.job)) c.settled.ensures
-    (subst (λ (found : Option Job). IsNextJob c.loop-saturation.saturation (c.args.budget - c.settled.result) found) c.in-Some.is c.in_ok-job.ensures)
+    (subst (λ (found : Option JobView). IsNextJob c.loop-saturation.saturation (c.args.budget - c.settled.result) found) c.in-Some.is c.in_ok-job.ensures)
 
 saturated_more : (g : Over) (c : In_ok-saturate_column g) → IsNextJob c.loop-saturation.saturation (c.args.budget - settled_of c.loop-saturation.book.phases) (Some c.in-Some.job) →
     IsSaturating (rows_of c.args.lat.now) c.args.grading.now c.args.budget c.saturate_column.new.saturation c.saturate_column.new.book
@@ -30,7 +30,7 @@ saturated_more g c next =
 
 -- ---- the last job
 none_left : (g : Over) (c : In_default g) → NoneLeft c.loop-saturation.saturation.left
-none_left g c = subst (λ (found : Option Job). IsNextJob c.loop-saturation.saturation (c.args.budget - c.settled.result) found) c.in_default.is c.in_ok-job.ensures
+none_left g c = subst (λ (found : Option JobView). IsNextJob c.loop-saturation.saturation (c.args.budget - c.settled.result) found) c.in_default.is c.in_ok-job.ensures
 
 last_job : (g : Over) (c : In_ok-job-2 g) → IsJob c.loop-saturation.saturation.basis (standard (length c.loop-saturation.saturation.basis.grading)) (c.args.budget - settled_of c.loop-saturation.book.phases) c.in_ok-job-2.job
 last_job g c =

@@ -1,5 +1,5 @@
 use Rattle.std.proofs.Common.{◌+◌, ◌≤◌}
-use Rattle.mk_solve.proofs.workers.is_short.Given as goal
+use Rattle.mk_solve.proofs.workers.is_long.Given as goal
 
 -- of those that were looked at, no more were reduced than there are
 abbrev pub invariant-loop-n : goal.invariant-loop-n

@@ -1,8 +1,7 @@
 //! The command `markov`.
 #![tactic(auto)]
 
-use mk_run::{OpenGate, RealFolder, RunBook, Status, markov_top, run_alone};
-use mk_words::wants_one;
+use mk_run::{OpenGate, RealFolder, RunBook, Status, markov_top, run_alone, wants_one};
 use std::alloc::AllocGlobal;
 use std::io::{Eprint, Print};
 use std::process::ExitCode;

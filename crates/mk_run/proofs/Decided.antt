@@ -11,17 +11,17 @@ use Rattle.mk_solve.specs.Books.{Book, book_as, stop_as}
 use Rattle.mk_words.specs.declared.request.Request.{Request}
 use Rattle.mk_words.specs.declared.request.Task.{Task}
 use Rattle.mk_words.specs.declared.request.Task.TheVariants.{Project, Model}
-use Rattle.mk_run.specs.Asked.{IsAsked, HasFault}
+use Rattle.mk_run.specs.Asked.{IsAsked, HasInputFault}
 use Rattle.mk_run.specs.Runs.{HasStopOf, HasCauseOf, BooksProblem, IsStopped, Ends, IsDecided}
 use Rattle.mk_run.specs.declared.status.Status.{Status}
 use Rattle.mk_run.specs.declared.status.Status.TheVariants.{Done, Usage, Input, Folder, Overflow, Budget, Memory, Full}
 
 -- what is asked for is one lattice, or has one fault
-same_fault : (task : Task) (files : Files) (fault other : InputFault) → HasFault task files fault → HasFault task files other → fault ≡ other
+same_fault : (task : Task) (files : Files) (fault other : InputFault) → HasInputFault task files fault → HasInputFault task files other → fault ≡ other
 same_fault (Project name) files fault other h k = one_fault (project_files files name) fault other h k
 same_fault (Model sizes) files fault other h k = absurd h
 
-no_fault_asked : (task : Task) (files : Files) (lat : Grid) (w : List ℤ) (fault : InputFault) → IsAsked task files lat w → HasFault task files fault → ⊥
+no_fault_asked : (task : Task) (files : Files) (lat : Grid) (w : List ℤ) (fault : InputFault) → IsAsked task files lat w → HasInputFault task files fault → ⊥
 no_fault_asked (Project name) files lat w fault h k = not_both (project_files files name) lat w fault h k
 no_fault_asked (Model sizes) files lat w fault h k = k
 

@@ -17,7 +17,7 @@ use Rattle.mk_words.specs.declared.request.Request.{Request}
 use Rattle.mk_words.specs.declared.request.Task.{Task}
 use Rattle.mk_words.specs.declared.request.Task.TheVariants.{Project, Model}
 use Rattle.mk_run.specs.Asked.{IsOfProject}
-use Rattle.mk_run.specs.Runs.{IsDone, IsShownFor}
+use Rattle.mk_run.specs.Runs.{HasCompleteBook, IsShownFor}
 use Rattle.mk_run.specs.Stages.{Answers, FindsProblem, GivesState, HasBook, IsFoundFor, IsNotMaking, IsRunShown, IsRunShownFor, read_refused, stop_refused, write_refused}
 use Rattle.mk_run.specs.declared.fault.RunFault.{RunFault}
 use Rattle.mk_run.specs.declared.fault.RunFault.TheVariants as run
@@ -107,7 +107,7 @@ write_is_no_input desk.Memory input e = cc
 write_is_no_input desk.Failed input e = cc
 
 -- a run that is done
-pub done_shown : (task : Task) (book : Book) (before after : State) → IsDone task book → IsRunShownFor task before after (Ok tt) → IsShownFor task book.input before after Done
+pub done_shown : (task : Task) (book : Book) (before after : State) → HasCompleteBook task book → IsRunShownFor task before after (Ok tt) → IsShownFor task book.input before after Done
 done_shown (Project name) book before after done shown = record {
   faulty = λ fault kept. absurd (let none = done.0.0 in cc);
   too_long = λ many. elim (shown.too_long many) [ inl long ↦ absurd (let e = long.1 in cc) | inr e ↦ absurd (cc) ];

@@ -14,10 +14,10 @@ use Rattle.mk_solve.specs.declared.book.BookStop.TheVariants as why
 use Rattle.mk_words.specs.declared.request.Request.{Request}
 use Rattle.mk_words.specs.declared.request.Task.{Task}
 use Rattle.mk_words.specs.declared.request.Task.TheVariants.{Project, Model}
-use Rattle.mk_run.specs.Asked.{HasFault}
+use Rattle.mk_run.specs.Asked.{HasInputFault}
 use Rattle.mk_run.specs.Lines.{IsLine, folder_line, memory_line, stop_line, text_of_line}
-use Rattle.mk_run.specs.Runs.{IsDone, IsUnderWay, HasItsStop, EndsByBudget, HasLeftBook, HasFailedBook, HasCauseOf, InputIsShown, IsShownFor, LeavesAnswer, SaysLine, HasStop, IsStopped, Leaves, RunsOut, Ends}
-use Rattle.mk_run.specs.Stages.{HasBook, IsStoppedByBudget, IsNotMaking, IsRefusal, IsRunShown, IsRunShownFor, LeavesBegun, Answers, book_with}
+use Rattle.mk_run.specs.Runs.{HasCompleteBook, IsUnderWay, HasItsStop, EndsByBudget, HasLeftBook, HasFailedBook, HasCauseOf, InputIsShown, IsShownFor, LeavesAnswer, SaysLine, HasStop, IsStopped, Leaves, RunsOut, Ends}
+use Rattle.mk_run.specs.Stages.{HasBook, IsStoppedByBudget, IsNotMaking, IsRunRefusal, IsRunShown, IsRunShownFor, LeavesBegun, Answers, book_with}
 use Rattle.mk_run.specs.Statuses.{status_of}
 use Rattle.mk_run.specs.declared.fault.RunFault.{RunFault}
 use Rattle.mk_run.specs.declared.fault.RunFault.TheVariants as run
@@ -42,7 +42,7 @@ its_stop : (request : Request) (book : Book) (stop kept : BookStop) → book.sto
 its_stop request book stop kept e h = subst (HasItsStop request book) (let both = sym h.1 ∙ e in cc) h
 
 -- a book that is complete is under way
-pub begun_of_done : (task : Task) (book : Book) → IsDone task book → IsUnderWay task book
+pub begun_of_done : (task : Task) (book : Book) → HasCompleteBook task book → IsUnderWay task book
 begun_of_done task book done = (
   done.0,
   record {
@@ -84,7 +84,7 @@ module _ (request : Request) (book : Book) (before between after : State) (idle 
   making h = ap (λ (s : State). s.making) only ∙ h ∙ sym idle
 
   -- what the status of the refusal is caused by
-  status_cause : (fault : RunFault) (refusal : Refused) → IsRefusal request.task (book_with book fault) fault refusal → HasBook request book between (Err fault) → IsNotMaking between (Err fault) →
+  status_cause : (fault : RunFault) (refusal : Refused) → IsRunRefusal request.task (book_with book fault) fault refusal → HasBook request book between (Err fault) → IsNotMaking between (Err fault) →
       HasCause {T = Unit {0}} run.Failed before between (Err fault) → HasCauseOf request (book_with book fault) before after refusal.status
   status_cause run.Memory refusal r h m cause = subst (HasCauseOf request book before after) (sym r.0) (left_book request book run.Memory between h)
   status_cause run.Failed refusal r h m cause = subst (HasCauseOf request book before after) (sym r.0) (
@@ -96,7 +96,7 @@ module _ (request : Request) (book : Book) (before between after : State) (idle 
   status_cause run.Stopped refusal r h m cause =
       subst (HasCauseOf request book before after) (sym r.2) (stop_cause request book r.0 before after (its_stop request book h.0 r.0 r.1 h.1) (making m))
 
-  pub refused_cause : (fault : RunFault) (refusal : Refused) (status : Status) → (status ≡ refusal.status) ⊎ (status ≡ Memory) → IsRefusal request.task (book_with book fault) fault refusal →
+  pub refused_cause : (fault : RunFault) (refusal : Refused) (status : Status) → (status ≡ refusal.status) ⊎ (status ≡ Memory) → IsRunRefusal request.task (book_with book fault) fault refusal →
       HasBook request book between (Err fault) → IsNotMaking between (Err fault) → HasCause {T = Unit {0}} run.Failed before between (Err fault) → HasCauseOf request (book_with book fault) before after status
   refused_cause fault refusal status which r h m cause =
       elim which [
@@ -105,9 +105,9 @@ module _ (request : Request) (book : Book) (before between after : State) (idle 
       ]
 
 -- want of memory is told as such
-pub memory_told : (task : Task) (book : Book) (fault : RunFault) (refusal : Refused) (status : Status) → (status ≡ refusal.status) ⊎ (status ≡ Memory) → IsRefusal task book fault refusal → fault ≡ run.Memory → status ≡ Memory
+pub memory_told : (task : Task) (book : Book) (fault : RunFault) (refusal : Refused) (status : Status) → (status ≡ refusal.status) ⊎ (status ≡ Memory) → IsRunRefusal task book fault refusal → fault ≡ run.Memory → status ≡ Memory
 memory_told task book fault refusal status which r e =
-    elim which [ inl same ↦ same ∙ (subst (λ (f : RunFault). IsRefusal task book f refusal) e r).0 | inr memory ↦ memory ]
+    elim which [ inl same ↦ same ∙ (subst (λ (f : RunFault). IsRunRefusal task book f refusal) e r).0 | inr memory ↦ memory ]
 
 -- ---- the budget
 -- a stop of the budget is the one that the book has
@@ -116,7 +116,7 @@ budget_status book stop settled e f =
     let same : stop ≡ why.Budget settled = (let both = sym f ∙ e in cc) in
     ap status_of same
 
-pub ends_by_budget : (task : Task) (budget : ℕ) (book : Book) (fault : RunFault) (refusal : Refused) (status : Status) → (status ≡ refusal.status) ⊎ (status ≡ Memory) → IsRefusal task (book_with book fault) fault refusal →
+pub ends_by_budget : (task : Task) (budget : ℕ) (book : Book) (fault : RunFault) (refusal : Refused) (status : Status) → (status ≡ refusal.status) ⊎ (status ≡ Memory) → IsRunRefusal task (book_with book fault) fault refusal →
     IsStoppedByBudget budget book (Err fault) → EndsByBudget budget (book_with book fault) status
 ends_by_budget task budget book run.Stopped refusal status which r stops = λ used other.
     elim which [ inl e ↦ inl (e ∙ r.2 ∙ budget_status book r.0 budget (stops used other).1 r.1) | inr memory ↦ inr memory ]
@@ -234,8 +234,8 @@ module _ (request : Request) (book : Book) where
   same_stop : (stop : BookStop) (x : Desk) → book.stop ≡ Some stop → HasSomeStop x → HasStop request x.files book stop
   same_stop stop x kept h = subst (HasStop request x.files book) (let e = sym h.1 ∙ kept in cc) h.2
 
-  no_fault_kept : book.input ≡ None → (x : Desk) → IfSome book.input (HasFault request.task x.files)
-  no_fault_kept none x = subst (λ input. IfSome input (HasFault request.task x.files)) (sym none) tt
+  no_fault_kept : book.input ≡ None → (x : Desk) → IfSome book.input (HasInputFault request.task x.files)
+  no_fault_kept none x = subst (λ input. IfSome input (HasInputFault request.task x.files)) (sym none) tt
 
   no_stop_kept : book.stop ≡ None → (x : Desk) → IfSome book.stop (HasStop request x.files book)
   no_stop_kept none x = subst (λ stop. IfSome stop (HasStop request x.files book)) (sym none) tt
@@ -254,7 +254,7 @@ module _ (request : Request) (book : Book) (between : State) where
   leaves (run.Input fault) x y a = read_alone request _ x y a.1
   leaves run.Stopped x y a = read_alone request book x y a.1
 
-  faulty_kept : (fault : RunFault) (x y : Desk) → HasBook request book between (Err fault) → Answers request book (Err fault) x y → IfSome (book_with book fault).input (HasFault request.task x.files)
+  faulty_kept : (fault : RunFault) (x y : Desk) → HasBook request book between (Err fault) → Answers request book (Err fault) x y → IfSome (book_with book fault).input (HasInputFault request.task x.files)
   faulty_kept run.Memory x y h a = no_fault_kept request book (waiting_input request.task book h) x
   faulty_kept run.Failed x y h a = no_fault_kept request book (failed_input request.task book between h) x
   faulty_kept (run.Input fault) x y h a = a.0
@@ -275,7 +275,7 @@ module _ (request : Request) (book : Book) (between : State) where
   }
 
   -- the line of a refusal is one that a run may say
-  is_line : (fault : RunFault) (refusal : Refused) → IsRefusal request.task (book_with book fault) fault refusal → IsLine request.task (book_with book fault) (text_of_line refusal.line)
+  is_line : (fault : RunFault) (refusal : Refused) → IsRunRefusal request.task (book_with book fault) fault refusal → IsLine request.task (book_with book fault) (text_of_line refusal.line)
   is_line run.Memory refusal r = inr (inl r.1)
   is_line run.Failed refusal r = inl r.1
   is_line (run.Input fault) refusal r = inr (inr (inl (fault, refl, r.1)))
@@ -292,7 +292,7 @@ module _ (request : Request) (book : Book) (between : State) where
   stop_ends (why.BasisFull phase i j) rose x z h = h
 
   -- the run ended with the status of its refusal
-  ends_so : (rose reason : Type 0) (fault : RunFault) (refusal : Refused) → IsRefusal request.task (book_with book fault) fault refusal → HasBook request book between (Err fault) → (reason → rose ⊎ (refusal.status ≡ Memory)) →
+  ends_so : (rose reason : Type 0) (fault : RunFault) (refusal : Refused) → IsRunRefusal request.task (book_with book fault) fault refusal → HasBook request book between (Err fault) → (reason → rose ⊎ (refusal.status ≡ Memory)) →
       (x y z : Desk) → Answers request book (Err fault) x y → SaysLine (text_of_line refusal.line) reason y z → Ends request (book_with book fault) rose refusal.status x z
   ends_so rose reason run.Memory refusal r h up x y z a said =
       subst (λ (s : Status). Ends request book rose s x z) (sym r.0) (runs_out run.Memory (text_of_line refusal.line) reason (is_line run.Memory refusal r) h x y z a said)
@@ -317,7 +317,7 @@ module _ (request : Request) (book : Book) (between : State) where
       }))
 
   -- a refusal, and its line said
-  pub refused_ends : (rose risen : Type 0) (fault : RunFault) (refusal : Refused) (status : Status) → (status ≡ refusal.status) ⊎ (status ≡ Memory) → (risen → rose) → IsRefusal request.task (book_with book fault) fault refusal →
+  pub refused_ends : (rose risen : Type 0) (fault : RunFault) (refusal : Refused) (status : Status) → (status ≡ refusal.status) ⊎ (status ≡ Memory) → (risen → rose) → IsRunRefusal request.task (book_with book fault) fault refusal →
       HasBook request book between (Err fault) → (x y z : Desk) → Answers request book (Err fault) x y → SaysLine (text_of_line refusal.line) (risen ⊎ (status ≡ Memory)) y z → Ends request (book_with book fault) rose status x z
   refused_ends rose risen fault refusal status which up r h x y z a said =
       elim which [

@@ -15,7 +15,7 @@ use Rattle.mk_input.specs.declared.problem.Problem.{Problem}
 use Rattle.mk_input.specs.declared.fault.ReadFault.{ReadFault}
 use Rattle.mk_input.specs.declared.fault.ReadFault.TheVariants as read
 use Rattle.mk_solve.specs.Books.{Book, empty_book}
-use Rattle.mk_solve.specs.Solutions.{Solves, StopsByBudget}
+use Rattle.mk_solve.specs.Solutions.{BookCompletes, Solves, StopsByBudget}
 use Rattle.mk_solve.specs.declared.solving.RunStop.{RunStop}
 use Rattle.mk_solve.specs.declared.solving.RunStop.TheVariants as solve
 use Rattle.mk_words.specs.declared.request.Request.{Request}
@@ -23,7 +23,7 @@ use Rattle.mk_words.specs.declared.request.Task.{Task}
 use Rattle.mk_words.specs.declared.request.Task.TheVariants.{Project, Model}
 use Rattle.mk_writer.specs.Writing.{text_of}
 use Rattle.mk_run.specs.Asked.{IsModelIfAsked}
-use Rattle.mk_run.specs.Runs.{mar_name, IsDone, BookCompletes, LeavesAnswer, GivesMarkovBasis}
+use Rattle.mk_run.specs.Runs.{mar_name, HasCompleteBook, LeavesAnswer, GivesMarkovBasis}
 use Rattle.mk_run.specs.Stages.{Answers, FindsProblem, GivesAnswer, HasBook, IsFoundFor, LeavesBegun, IsStoppedByBudget, read_refused, stop_refused, summary_of, write_refused}
 use Rattle.mk_run.specs.declared.fault.RunFault.{RunFault}
 use Rattle.mk_run.proofs.Models.{model_same, summary_same}
@@ -31,7 +31,7 @@ use Rattle.mk_run.proofs.Refusals.{begun_of_done, read_alone}
 
 -- a lattice that is solved leaves the book done
 pub solved_is_done : (request : Request) (lat : Grid) (w : List ℤ) (list : MoveListView) (book : Book) → IsGradingOf lat w → IsModelIfAsked request.task lat w →
-    Solves (lattice_of_table lat w) request.budget request.upto (Ok list) book → IsDone request.task book
+    Solves (lattice_of_table lat w) request.budget request.upto (Ok list) book → HasCompleteBook request.task book
 solved_is_done request lat w list book positive made h =
     ((h.input, h.ends.0), record { lat = lat; grading = w; positive = positive; made = made; fact = record { bases = h.bases; complete = h.ends.1.done } })
 
@@ -56,7 +56,7 @@ unsolved_book request lat w solve.Stopped book after positive made h =
     (h.ends.0, (h.input, h.ends.1, record { lat = lat; grading = w; positive = positive; made = made; fact = record { bases = h.bases; cause = h.ends.2 } }))
 
 -- an answer that isn't given
-pub ungiven_book : (request : Request) (fault : DeskFault) (book : Book) (after : State) → IsDone request.task book → HasBook request book after (Err (write_refused fault))
+pub ungiven_book : (request : Request) (fault : DeskFault) (book : Book) (after : State) → HasCompleteBook request.task book → HasBook request book after (Err (write_refused fault))
 ungiven_book request desk.Memory book after done = inr (begun_of_done request.task book done)
 ungiven_book request desk.Failed book after done = inr done
 

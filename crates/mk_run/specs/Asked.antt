@@ -37,9 +37,9 @@ IsAsked (Project name) files lat grading = IsProblem (project_files files name) 
 IsAsked (Model sizes) files lat grading = IsModel sizes lat grading
 
 -- the project's files have this fault; a made table has none
-abbrev pub HasFault : Task → Files → InputFault → Type 0
-HasFault (Project name) files fault = IsFaulty (project_files files name) fault
-HasFault (Model sizes) files fault = ⊥
+abbrev pub HasInputFault : Task → Files → InputFault → Type 0
+HasInputFault (Project name) files fault = IsFaulty (project_files files name) fault
+HasInputFault (Model sizes) files fault = ⊥
 
 -- so it is for the lattice that is asked for, with its grading
 pub record ForLatticeOf (task : Task) (files : Files) (Fact : Lattice → Type 0) : Type 0 where

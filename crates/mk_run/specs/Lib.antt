@@ -2,4 +2,5 @@ pub mod Statuses
 pub mod Lines
 pub mod Asked
 pub mod Runs
+pub mod WordRuns
 pub mod Stages

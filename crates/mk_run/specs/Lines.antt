@@ -1,8 +1,7 @@
 -- The one line on the error channel for each refusal that isn't of the input.
-use Rattle.std.specs.Prelude.{◌≡◌, ◌⊎◌, ℕ, ◌+◌, List, ◌++◌, Some, codes, decimal, string_bytes}
-use Rattle.std.specs.Fmt.{signed_decimal}
-use Rattle.mk_move.specs.declared.steps.OverflowAt.{OverflowAt}
+use Rattle.std.specs.Prelude.{◌≡◌, ◌⊎◌, ℕ, List, Some, codes, string_bytes}
 use Rattle.mk_project.specs.Lines.{input_line}
+use Rattle.mk_project.specs.Stops.{overflow_line, budget_line}
 use Rattle.mk_project.specs.declared.fault.InputFault.{InputFault}
 use Rattle.mk_solve.specs.Books.{Book}
 use Rattle.mk_solve.specs.declared.book.BookStop.{BookStop}
@@ -11,6 +10,10 @@ use Rattle.mk_words.specs.declared.request.Task.{Task}
 use Rattle.mk_words.specs.declared.request.Task.TheVariants.{Project, Model}
 use Rattle.mk_run.specs.declared.lines.Line.{Line}
 use Rattle.mk_run.specs.declared.lines.Line.TheVariants.{Folder, Memory, Made}
+
+-- the program's name, with which its lines begin
+abbrev pub program_name : List ℕ
+program_name = codes "markov"
 
 abbrev pub usage_line : List ℕ
 usage_line =
@@ -22,27 +25,18 @@ folder_line = codes "markov: a file or stream failed\n"
 abbrev pub memory_line : List ℕ
 memory_line = codes "markov: out of memory\n"
 
--- the column, counted from 1, where `left - times * right` left the range, and the three numbers
-abbrev pub overflow_line : OverflowAt → List ℕ
-overflow_line at =
-    codes "markov: overflow in column " ++ decimal (at.column + 1) ++ codes ": " ++ signed_decimal at.left ++ codes " - ("
-    ++ signed_decimal at.times ++ codes ") * (" ++ signed_decimal at.right ++ codes ")\n"
-
-abbrev pub budget_line : ℕ → List ℕ
-budget_line settled = codes "markov: budget of " ++ decimal settled ++ codes " pairs used and a pair is left\n"
-
 abbrev pub full_line : List ℕ
 full_line = codes "markov: basis holds 65536 moves and needs another\n"
 
 -- the line for why a run stopped
 abbrev pub stop_line : BookStop → List ℕ
-stop_line (why.Overflow place stop) = overflow_line stop.at
-stop_line (why.Budget settled) = budget_line settled
+stop_line (why.Overflow place stop) = overflow_line program_name stop.at
+stop_line (why.Budget settled) = budget_line program_name settled
 stop_line (why.BasisFull phase i j) = full_line
 
 -- the line for a fault of the project's files
 abbrev pub IsInputLine : Task → InputFault → List ℕ → Type 0
-IsInputLine (Project name) fault line = line ≡ input_line name fault
+IsInputLine (Project name) fault line = line ≡ input_line program_name name fault
 IsInputLine (Model sizes) fault line = ⊥
 
 -- the lines that a run may say for what it is asked for: those of its book's fault and stop, and two more

@@ -3,8 +3,8 @@ use Rattle.std.specs.Prelude.{◌≡◌, ◌⊎◌, ℕ, ◌+◌, ◌≤◌, Lis
 use Rattle.std.specs.FinMap.{insert}
 use Rattle.std.specs.Option.{option_map}
 use Rattle.mk_model.specs.Bases.{IsMinimalMarkovBasis}
-use Rattle.mk_model.specs.Books.{BookIsComplete, BookIsUnderWay, HasStopped, IsBudgetUsed, IsNoOtherStop}
-use Rattle.mk_model.specs.Lattices.{Lattice, nonzero_rows}
+use Rattle.mk_model.specs.Books.{IsBudgetUsed, IsNoOtherStop}
+use Rattle.mk_model.specs.Lattices.{nonzero_rows}
 use Rattle.mk_model.specs.Tables.{lattice_of_table, Grid, rows_of}
 use Rattle.mk_model.specs.Texts.{move_text}
 use Rattle.mk_desk.specs.Folders.{Desk, Files, State, OnlyFaultsRose, Rose}
@@ -16,12 +16,12 @@ use Rattle.mk_project.specs.declared.fault.InputFault.TheVariants.{FileSize}
 use Rattle.mk_input.specs.Projects.{project_files, IsProblem}
 use Rattle.mk_input.specs.Readings.{IsShownBy}
 use Rattle.mk_solve.specs.Books.{Book, empty_book, book_as, stop_as}
-use Rattle.mk_solve.specs.Solutions.{KeepsBases}
+use Rattle.mk_solve.specs.Solutions.{BookCompletes, BookBegins, BookStops}
 use Rattle.mk_solve.specs.declared.book.BookStop.{BookStop}
 use Rattle.mk_words.specs.declared.request.Request.{Request}
 use Rattle.mk_words.specs.declared.request.Task.{Task}
 use Rattle.mk_words.specs.declared.request.Task.TheVariants.{Project, Model}
-use Rattle.mk_run.specs.Asked.{IsOfProject, IsAsked, HasFault, ForLatticeOf, ForSomeLattice, model_lattice, model_summary}
+use Rattle.mk_run.specs.Asked.{IsOfProject, IsAsked, HasInputFault, ForLatticeOf, ForSomeLattice, model_lattice, model_summary}
 use Rattle.mk_run.specs.Lines.{IsInputLine, IsLine, usage_line, folder_line, memory_line, stop_line}
 use Rattle.mk_run.specs.Statuses.{status_of}
 use Rattle.mk_run.specs.declared.status.Status.{Status}
@@ -57,22 +57,7 @@ abbrev pub GivesMarkovBasis : Task → Option ℕ → Desk → Desk → Type 0
 GivesMarkovBasis (Project name) upto before after = WritesMarkovBasis name upto before after
 GivesMarkovBasis (Model sizes) upto before after = SaysMarkovBasis sizes upto before after
 
--- ---- what the book says of a lattice
--- every phase is ended, and the reduced basis is made
-pub record BookCompletes (book : Book) (lattice : Lattice) : Type 0 where
-  pub bases : KeepsBases lattice.grading book
-  pub complete : BookIsComplete lattice (book_as book)
-
--- the phases that stand in it are ended
-pub record BookBegins (book : Book) (lattice : Lattice) : Type 0 where
-  pub bases : KeepsBases lattice.grading book
-  pub under_way : BookIsUnderWay lattice (book_as book)
-
--- the stop has its cause in the phases or in the reduced basis, within the budget
-pub record BookStops (budget : ℕ) (book : Book) (stop : BookStop) (lattice : Lattice) : Type 0 where
-  pub bases : KeepsBases lattice.grading book
-  pub cause : HasStopped lattice budget (book_as book) (stop_as stop)
-
+-- ---- what the book says of the lattice
 -- the book is complete for the lattice that is asked for
 abbrev pub BooksProblem : Task → Files → Book → Type 0
 BooksProblem task files book = ForLatticeOf task files (BookCompletes book)
@@ -87,8 +72,8 @@ abbrev pub HasNeither : Book → Type 0
 HasNeither book = (book.input ≡ None) × (book.stop ≡ None)
 
 -- no fault and no stop, and the book is complete
-abbrev pub IsDone : Task → Book → Type 0
-IsDone task book = HasNeither book × ForSomeLattice task (BookCompletes book)
+abbrev pub HasCompleteBook : Task → Book → Type 0
+HasCompleteBook task book = HasNeither book × ForSomeLattice task (BookCompletes book)
 
 -- no fault and no stop, and the phases that stand in the book are ended
 abbrev pub IsUnderWay : Task → Book → Type 0
@@ -96,7 +81,8 @@ IsUnderWay task book = HasNeither book × ForSomeLattice task (BookBegins book)
 
 -- no fault, and a stop with its cause
 abbrev pub HasItsStop : Request → Book → BookStop → Type 0
-HasItsStop request book stop = (book.input ≡ None) × (book.stop ≡ Some stop) × ForSomeLattice request.task (BookStops request.budget book stop)
+HasItsStop request book stop =
+    (book.input ≡ None) × (book.stop ≡ Some stop) × ForSomeLattice request.task (BookStops request.budget book stop)
 
 -- a stop of this status
 abbrev pub HasStopOf : Request → Status → Book → Type 0
@@ -109,7 +95,7 @@ HasFaultAlone task book = IsOfProject task × ((fault : InputFault) × (book ≡
 -- The folder failed while the project was read, and the last `start_read` was not answered Absent; or it failed once the book was
 -- complete.
 abbrev pub HasFailedBook : Task → Book → State → Type 0
-HasFailedBook task book after = (IsOfProject task × (book ≡ empty_book) × ¬ (after.found ≡ Some Absent)) ⊎ IsDone task book
+HasFailedBook task book after = (IsOfProject task × (book ≡ empty_book) × ¬ (after.found ≡ Some Absent)) ⊎ HasCompleteBook task book
 
 -- Nothing, or a fault alone, or phases that are ended and neither a fault nor a stop, or a stop with its cause.
 abbrev pub HasLeftBook : Request → Book → Type 0
@@ -120,7 +106,8 @@ HasLeftBook request book =
 -- Each status of a run on a request with its cause. Want of memory is free, but what the book then has has its cause. No file is left
 -- being made, but where the folder failed or memory ran out. A made table has no fault.
 abbrev pub HasCauseOf : Request → Book → State → State → Status → Type 0
-HasCauseOf request book before after Done = IsDone request.task book × (after.making ≡ before.making) × (after.faults ≡ before.faults)
+HasCauseOf request book before after Done =
+    HasCompleteBook request.task book × (after.making ≡ before.making) × (after.faults ≡ before.faults)
 HasCauseOf request book before after Usage = ⊥
 HasCauseOf request book before after Input = HasFaultAlone request.task book × (after.making ≡ before.making)
 HasCauseOf request book before after Folder = HasFailedBook request.task book after × Rose before.faults after.faults
@@ -164,7 +151,7 @@ pub record SaysLine (line : List ℕ) (rose : Type 0) (before after : Desk) : Ty
 pub record RefusesInput (task : Task) (book : Book) (rose : Type 0) (before after : Desk) : Type 0 where
   pub fault : InputFault
   pub kept : book.input ≡ Some fault
-  pub faulty : HasFault task before.files fault
+  pub faulty : HasInputFault task before.files fault
   pub line : List ℕ
   pub named : IsInputLine task fault line
   pub said : SaysLine line rose before after
@@ -208,8 +195,10 @@ IsMadeAsBefore before after = (after.made_name ≡ before.made_name) × (after.m
 -- What is left of the answer. Of a project: a file that was begun is the answer's, and nothing was said on the out channel. Of a made
 -- table: a front of its summary was said, or nothing, and no file was begun.
 abbrev pub LeavesAnswer : Task → Option ℕ → Book → Desk → Desk → Type 0
-LeavesAnswer (Project name) upto book before after = (after.out ≡ before.out) × (IsMadeAsBefore before after ⊎ IsBegun name upto book before after)
-LeavesAnswer (Model sizes) upto book before after = IsMadeAsBefore before after × ((after.out ≡ before.out) ⊎ IsHalfSaid sizes upto book before after)
+LeavesAnswer (Project name) upto book before after =
+    (after.out ≡ before.out) × (IsMadeAsBefore before after ⊎ IsBegun name upto book before after)
+LeavesAnswer (Model sizes) upto book before after =
+    IsMadeAsBefore before after × ((after.out ≡ before.out) ⊎ IsHalfSaid sizes upto book before after)
 
 -- No file changed, and nothing was said on the error channel but a front of one of those lines.
 pub record Leaves (request : Request) (book : Book) (IsOne : List ℕ → Type 0) (before after : Desk) : Type 0 where
@@ -222,7 +211,7 @@ pub record Leaves (request : Request) (book : Book) (IsOne : List ℕ → Type 0
 
 -- Memory ran out. No file changed, and a fault or a stop that the book has is one that what is asked for has.
 pub record RunsOut (request : Request) (book : Book) (before after : Desk) : Type 0 where
-  pub faulty : IfSome book.input (HasFault request.task before.files)
+  pub faulty : IfSome book.input (HasInputFault request.task before.files)
   pub stopped : IfSome book.stop (HasStop request before.files book)
   pub left : Leaves request book (IsLine request.task book) before after
 
@@ -257,7 +246,7 @@ Unless rose status ending = ending ⊎ rose ⊎ (status ≡ Memory)
 -- A fault that the files have is answered, and kept. A lattice with its grading is answered, or the run stops, which it never does
 -- where the lattice has at most one row that isn't zero.
 pub record IsDecided (request : Request) (book : Book) (rose : Type 0) (status : Status) (before after : Desk) : Type 0 where
-  pub faulty : (fault : InputFault) → HasFault request.task before.files fault
+  pub faulty : (fault : InputFault) → HasInputFault request.task before.files fault
       → Unless rose status ((status ≡ Input) × (book.input ≡ Some fault))
   pub solvable : (lat : Grid) (grading : List ℤ) → IsAsked request.task before.files lat grading
       → Unless rose status ((status ≡ Done) ⊎ HasStopOf request status book)

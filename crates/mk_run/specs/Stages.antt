@@ -28,9 +28,9 @@ use Rattle.mk_solve.specs.declared.solving.RunStop.TheVariants as solve
 use Rattle.mk_words.specs.declared.request.Request.{Request}
 use Rattle.mk_words.specs.declared.request.Task.{Task}
 use Rattle.mk_words.specs.declared.request.Task.TheVariants.{Project, Model}
-use Rattle.mk_run.specs.Asked.{IsOfProject, IsAsked, HasFault}
+use Rattle.mk_run.specs.Asked.{IsOfProject, IsAsked, HasInputFault}
 use Rattle.mk_run.specs.Lines.{IsInputLine, folder_line, memory_line, stop_line, text_of_line}
-use Rattle.mk_run.specs.Runs.{mar_name, GivesMarkovBasis, BooksProblem, IsDone, IsUnderWay, HasItsStop, HasFailedBook, HasStop, LeavesAnswer}
+use Rattle.mk_run.specs.Runs.{mar_name, GivesMarkovBasis, BooksProblem, HasCompleteBook, IsUnderWay, HasItsStop, HasFailedBook, HasStop, LeavesAnswer}
 use Rattle.mk_run.specs.Statuses.{status_of}
 use Rattle.mk_run.specs.declared.fault.RunFault.{RunFault}
 use Rattle.mk_run.specs.declared.fault.RunFault.TheVariants.{Memory, Failed, Input, Stopped}
@@ -60,7 +60,7 @@ IsFoundFor (Model sizes) before after result = (after ≡ before) × ((fault : R
 -- The lattice with its grading, or the fault that the project's files have. No cause is given for the others.
 abbrev pub FindsProblem : Task → Result Problem ReadFault → Desk → Desk → Type 0
 FindsProblem task (Ok problem) before after = IsAsked task before.files problem.lat problem.grading × OnlyRead before after
-FindsProblem task (Err (read.Input fault)) before after = HasFault task before.files fault × OnlyRead before after
+FindsProblem task (Err (read.Input fault)) before after = HasInputFault task before.files fault × OnlyRead before after
 FindsProblem task (Err read.Memory) before after = OnlyRead before after
 FindsProblem task (Err read.Failed) before after = OnlyRead before after
 
@@ -90,7 +90,7 @@ GivesState (Model sizes) before after result = OnlyFaultsRose before after
 -- ---- the whole of a run, before a refusal is said
 -- What the book has where a run got so far, before a fault of the input is kept.
 abbrev pub HasBook : Request → Book → State → Result Unit RunFault → Type 0
-HasBook request book after (Ok done) = IsDone request.task book
+HasBook request book after (Ok done) = HasCompleteBook request.task book
 HasBook request book after (Err (Input fault)) = IsOfProject request.task × (book ≡ empty_book)
 HasBook request book after (Err Failed) = HasFailedBook request.task book after
 HasBook request book after (Err Stopped) = (stop : BookStop) × HasItsStop request book stop
@@ -110,11 +110,11 @@ book_with book Stopped = book
 book_with book Memory = book
 
 -- the status and the line for why a run has no answer
-abbrev pub IsRefusal : Task → Book → RunFault → Refused → Type 0
-IsRefusal task book Memory refusal = (refusal.status ≡ ended.Memory) × (text_of_line refusal.line ≡ memory_line)
-IsRefusal task book Failed refusal = (refusal.status ≡ ended.Folder) × (text_of_line refusal.line ≡ folder_line)
-IsRefusal task book (Input fault) refusal = (refusal.status ≡ ended.Input) × IsInputLine task fault (text_of_line refusal.line)
-IsRefusal task book Stopped refusal =
+abbrev pub IsRunRefusal : Task → Book → RunFault → Refused → Type 0
+IsRunRefusal task book Memory refusal = (refusal.status ≡ ended.Memory) × (text_of_line refusal.line ≡ memory_line)
+IsRunRefusal task book Failed refusal = (refusal.status ≡ ended.Folder) × (text_of_line refusal.line ≡ folder_line)
+IsRunRefusal task book (Input fault) refusal = (refusal.status ≡ ended.Input) × IsInputLine task fault (text_of_line refusal.line)
+IsRunRefusal task book Stopped refusal =
     (stop : BookStop) × (book.stop ≡ Some stop) × (refusal.status ≡ status_of stop) × (text_of_line refusal.line ≡ stop_line stop)
 
 -- nothing changed but what was read, or the answer was begun
@@ -127,7 +127,7 @@ pub record LeavesBegun (request : Request) (book : Book) (before after : Desk) :
 abbrev pub Answers : Request → Book → Result Unit RunFault → Desk → Desk → Type 0
 Answers request book (Ok done) before after =
     GivesMarkovBasis request.task request.upto before after × BooksProblem request.task before.files book
-Answers request book (Err (Input fault)) before after = HasFault request.task before.files fault × OnlyRead before after
+Answers request book (Err (Input fault)) before after = HasInputFault request.task before.files fault × OnlyRead before after
 Answers request book (Err Stopped) before after =
     ((stop : BookStop) × (book.stop ≡ Some stop) × HasStop request before.files book stop) × OnlyRead before after
 Answers request book (Err Memory) before after = LeavesBegun request book before after
@@ -137,7 +137,8 @@ Answers request book (Err Failed) before after = LeavesBegun request book before
 -- long, unless memory ran out.
 pub record IsRunShown {T : Type 0} (after : State) (result : Result T RunFault) : Type 0 where
   pub faulty : (fault : InputFault) → IsErrOf result (Input fault) → IsShownBy after fault
-  pub too_long : after.given ≡ FILE_LIMIT + 1 → ((file : InputFile) × IsErrOf result (Input (FileSize file (FILE_LIMIT + 1)))) ⊎ IsErrOf result Memory
+  pub too_long : after.given ≡ FILE_LIMIT + 1
+      → ((file : InputFile) × IsErrOf result (Input (FileSize file (FILE_LIMIT + 1)))) ⊎ IsErrOf result Memory
 
 -- for a project the input is so shown; for a made table no file was touched
 abbrev pub IsRunShownFor : Task → State → State → Result Unit RunFault → Type 0

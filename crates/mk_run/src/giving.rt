@@ -26,7 +26,8 @@ pub(crate) fn give<F: Folder>(
     requires { (F.state folder.old).making ≡ false }
     ensures state { GivesState task.now (F.state folder.old) (F.state folder.new) result }
     ensures cause { HasCause DeskFault.Failed (F.state folder.old) (F.state folder.new) result }
-    ensures told { WhereTold (F.told folder.old) (F.told folder.new) (GivesAnswer task.now lat.now list.now result) }
+    ensures told { WhereTold (F.told folder.old) (F.told folder.new)
+        (GivesAnswer task.now lat.now list.now result) }
 {
     match task {
         Task::Project(name) => write_answer(alloc, folder, name.text(), list),
@@ -43,10 +44,14 @@ fn write_answer<F: Folder>(
 ) -> Result<(), DeskFault>
     requires { (F.state folder.old).making ≡ false }
     ensures state { F.state folder.new
-        ≡ record (F.state folder.old) { making = (F.state folder.new).making; faults = (F.state folder.new).faults } }
+        ≡ record (F.state folder.old) {
+          making = (F.state folder.new).making;
+          faults = (F.state folder.new).faults;
+        } }
     ensures making { OnOk result ((F.state folder.new).making ≡ false) }
     ensures cause { HasCause DeskFault.Failed (F.state folder.old) (F.state folder.new) result }
-    ensures told { WhereTold (F.told folder.old) (F.told folder.new) (WritesAnswer project.now list.now result) }
+    ensures told { WhereTold (F.told folder.old) (F.told folder.new)
+        (WritesAnswer project.now list.now result) }
 {
     let name = file_name(alloc, project, ".mar")?;
     folder.start_write(name.as_str())?;

@@ -18,5 +18,6 @@ pub use mk_solve::{
     BookStop, Gate, Journal, JournalEntry, Kind, OpenGate, OverflowPlace, OverflowStop, Phase,
     RunBook, RunStop, solve_alone, solve_shared,
 };
+pub use mk_words::wants_one;
 pub use run::{markov_top, run_alone};
 pub use status::Status;

@@ -1,11 +1,14 @@
 //! The one line on the error channel for each refusal that isn't of the input.
 
 ghost use Rattle.std.specs.Prelude.{◌≡◌, IfOk, string_bytes};
-ghost use Rattle.mk_run.specs.Lines.{stop_line, overflow_line, budget_line, text_of_line};
+ghost use Rattle.mk_run.specs.Lines.{stop_line, text_of_line};
 
-use mk_move::OverflowAt;
+use mk_project::{budget_line, overflow_line};
 use mk_solve::BookStop;
 use std::alloc::{AllocError, Global};
+
+/// The program's name, with which its lines begin.
+pub(crate) const PROGRAM: &str = "markov";
 
 /// The line for words that are no command.
 pub(crate) const USAGE: &str =
@@ -46,29 +49,8 @@ pub fn stop_line(alloc: Global, stop: &BookStop) -> Result<String, AllocError>
     ensures { IfOk result (λ line. string_bytes line ≡ stop_line stop.now) }
 {
     match stop {
-        BookStop::Overflow { stop, .. } => overflow_line(alloc, stop.at),
-        BookStop::Budget { settled } => budget_line(alloc, *settled),
+        BookStop::Overflow { stop, .. } => overflow_line(alloc, PROGRAM, stop.at),
+        BookStop::Budget { settled } => budget_line(alloc, PROGRAM, *settled),
         BookStop::BasisFull { .. } => String::from_str(alloc, FULL),
     }
-}
-
-/// The line for a column, counted from 1, where an entry of `left - times * right` left the range.
-fn overflow_line(alloc: Global, at: OverflowAt) -> Result<String, AllocError>
-    ensures { IfOk result (λ line. string_bytes line ≡ overflow_line at) }
-{
-    let OverflowAt {
-        column,
-        left,
-        times,
-        right,
-    } = at;
-    let column = u64::from(column) + 1;
-    format!(in alloc; "markov: overflow in column {column}: {left} - ({times}) * ({right})\n")
-}
-
-/// The line for so many settled pairs, as many as a run may settle, while a pair is left.
-fn budget_line(alloc: Global, settled: u64) -> Result<String, AllocError>
-    ensures { IfOk result (λ line. string_bytes line ≡ budget_line settled) }
-{
-    format!(in alloc; "markov: budget of {settled} pairs used and a pair is left\n")
 }

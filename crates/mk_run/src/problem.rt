@@ -26,7 +26,8 @@ pub(crate) fn problem_of<F: Folder>(
     ensures made { IfOk result (λ problem. IsModelIfAsked task.now problem.lat problem.grading) }
     ensures found { IsFoundFor task.now (F.state folder.old) (F.state folder.new) result }
     ensures cause { HasCause ReadFault.Failed (F.state folder.old) (F.state folder.new) result }
-    ensures told { WhereTold (F.told folder.old) (F.told folder.new) (FindsProblem task.now result) }
+    ensures told { WhereTold (F.told folder.old) (F.told folder.new)
+        (FindsProblem task.now result) }
 {
     match task {
         Task::Project(name) => read_project(alloc, folder, name.text()),

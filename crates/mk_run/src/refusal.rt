@@ -1,10 +1,10 @@
 ghost use Rattle.std.specs.Prelude.{◌≡◌, IsSome, IfOk};
 ghost use Rattle.mk_project.specs.declared.fault.InputFault.{InputFault};
 ghost use Rattle.mk_run.specs.Asked.{IsOfProject};
-ghost use Rattle.mk_run.specs.Stages.{IsRefusal, book_with};
+ghost use Rattle.mk_run.specs.Stages.{IsRunRefusal, book_with};
 
 use crate::fault::RunFault;
-use crate::lines::{Line, stop_line};
+use crate::lines::{Line, PROGRAM, stop_line};
 use crate::status::Status;
 use mk_project::input_line;
 use mk_solve::RunBook;
@@ -27,7 +27,7 @@ pub(crate) fn refusal(
 ) -> Result<Refused, AllocError>
     requires stopped { fault ≡ RunFault.Stopped → IsSome book.now.stop }
     requires input { (input : InputFault) → fault ≡ RunFault.Input input → IsOfProject task.now }
-    ensures { IfOk result (IsRefusal task.now book.now fault) }
+    ensures { IfOk result (IsRunRefusal task.now book.now fault) }
 {
     match fault {
         RunFault::Memory => Ok(Refused {
@@ -41,7 +41,7 @@ pub(crate) fn refusal(
         RunFault::Input(fault) => match task {
             Task::Project(name) => Ok(Refused {
                 status: Status::Input,
-                line: Line::Made(input_line(alloc, name.text(), fault)?),
+                line: Line::Made(input_line(alloc, PROGRAM, name.text(), fault)?),
             }),
             Task::Model(_) => unreachable!(),
         },

@@ -3,12 +3,13 @@
 ghost use Rattle.std.specs.Prelude.{◌≡◌, ◌↔◌, ◌⊎◌, ◌≤◌, length, map, false, string_bytes, IfSome};
 ghost use Rattle.mk_core.specs.JobPhases.{CompletesJob, IsUsedUp};
 ghost use Rattle.mk_core.specs.Phases.{phase_in, AnswersOverBudget};
-ghost use Rattle.mk_desk.specs.Folders.{CountsNoFault, HasCause, OnlyFaultsRose, Rose, WhereTold};
+ghost use Rattle.mk_desk.specs.Folders.{HasCause, OnlyFaultsRose, Rose, WhereTold};
 ghost use Rattle.mk_solve.specs.Books.{empty_book, settled_of};
-ghost use Rattle.mk_words.specs.Requests.{AreWrong, IsRequest};
+ghost use Rattle.mk_words.specs.Requests.{IsRequest};
 ghost use Rattle.mk_words.specs.declared.request.Request.{Request};
-ghost use Rattle.mk_run.specs.Runs.{BooksProblem, Ends, EndsByBudget, EndsUnasked, GivesMarkovBasis, HasCauseOf, IsDecided, IsShownFor, IsUnread, SaysLine};
+ghost use Rattle.mk_run.specs.Runs.{Ends, EndsByBudget, GivesMarkovBasis, HasCauseOf, IsShownFor, SaysLine};
 ghost use Rattle.mk_run.specs.Stages.{Answers, HasBook, IsNotMaking, IsRunShownFor, IsStoppedByBudget};
+ghost use Rattle.mk_run.specs.WordRuns.{IsRunOnWords};
 
 use crate::fault::RunFault;
 use crate::giving::give;
@@ -42,44 +43,15 @@ pub fn run_alone<F: Folder>(
     requires book { book.old ≡ empty_book }
     requires making { (F.state folder.old).making ≡ false }
 
-    // The headline: from what is asked for to the bytes of the answer. And the book shows how it was found.
-    ensures answered { result ≡ Status.Done → (request : Request) → IsRequest (map string_bytes words.now) request →
-        WhereTold (F.told folder.old) (F.told folder.new) (GivesMarkovBasis request.task request.upto) }
-    ensures booked { result ≡ Status.Done → (request : Request) → IsRequest (map string_bytes words.now) request →
-        WhereTold (F.told folder.old) (F.told folder.new) (λ before after. BooksProblem request.task before.files book.new) }
-
-    // Usage where the words are not in the language, unless memory ran out; and no other words do. The words are read as a request, or
-    // nothing is touched.
-    ensures usage { AreWrong (map string_bytes words.now) → (result ≡ Status.Usage) ⊎ (result ≡ Status.Memory) }
-    ensures named { result ≡ Status.Usage → AreWrong (map string_bytes words.now) }
-    ensures unread { ((request : Request) × IsRequest (map string_bytes words.now) request)
-        ⊎ IsUnread book.new (F.state folder.old) (F.state folder.new) result }
-
-    // Each status has its cause. The book has a fault exactly where the input was refused, and a stop exactly where the
-    // run stopped, unless memory ran out. It has no more pairs than asked for, and where it has so many and a pair is left
-    // the status says so.
-    ensures cause { (request : Request) → IsRequest (map string_bytes words.now) request →
-        HasCauseOf request book.new (F.state folder.old) (F.state folder.new) result }
-    ensures settled { (request : Request) → IsRequest (map string_bytes words.now) request →
-        settled_of book.new.phases ≤ request.budget }
-    ensures budget { (request : Request) → IsRequest (map string_bytes words.now) request →
-        EndsByBudget request.budget book.new result }
-    ensures shown { (request : Request) → IsRequest (map string_bytes words.now) request →
-        IsShownFor request.task book.new.input (F.state folder.old) (F.state folder.new) result }
-
-    // What each ending but the answer says and leaves, and what is decided by what is asked for, where the folder tells.
-    ensures told { (request : Request) → IsRequest (map string_bytes words.now) request →
+    // The headline: from what is asked for to the bytes of the answer.
+    ensures answered { result ≡ Status.Done → (request : Request) →
+        IsRequest (map string_bytes words.now) request →
         WhereTold (F.told folder.old) (F.told folder.new)
-        (Ends request book.new (Rose (F.state folder.old).faults (F.state folder.new).faults) result) }
-    ensures told_unasked { AreWrong (map string_bytes words.now) →
-        WhereTold (F.told folder.old) (F.told folder.new)
-        (EndsUnasked (Rose (F.state folder.old).faults (F.state folder.new).faults) result) }
-    ensures decided { (request : Request) → IsRequest (map string_bytes words.now) request →
-        WhereTold (F.told folder.old) (F.told folder.new)
-        (IsDecided request book.new (Rose (F.state folder.old).faults (F.state folder.new).faults) result) }
+        (GivesMarkovBasis request.task request.upto) }
 
-    // Over a folder that counts no fault, none is answered.
-    ensures sure { CountsNoFault F.state → result ≡ Status.Folder → ⊥ }
+    // Each other ending, its cause and what it leaves, and what the book shows.
+    ensures run { IsRunOnWords F.told F.state
+        (map string_bytes words.now) folder.old folder.new book.new result }
 {
     run_words(alloc, OneWorker, words, folder, book)
 }
@@ -97,52 +69,24 @@ pub fn markov_top<F: Folder, G: Gate + Sync, R: Threads + Wait + Sync>(
     requires book { book.old ≡ empty_book }
     requires making { (F.state folder.old).making ≡ false }
 
-    // The headline: from what is asked for to the bytes of the answer. And the book shows how it was found.
-    ensures answered { result ≡ Status.Done → (request : Request) → IsRequest (map string_bytes words.now) request →
-        WhereTold (F.told folder.old) (F.told folder.new) (GivesMarkovBasis request.task request.upto) }
-    ensures booked { result ≡ Status.Done → (request : Request) → IsRequest (map string_bytes words.now) request →
-        WhereTold (F.told folder.old) (F.told folder.new) (λ before after. BooksProblem request.task before.files book.new) }
-
-    // Usage where the words are not in the language, unless memory ran out; and no other words do. The words are read as a request, or
-    // nothing is touched.
-    ensures usage { AreWrong (map string_bytes words.now) → (result ≡ Status.Usage) ⊎ (result ≡ Status.Memory) }
-    ensures named { result ≡ Status.Usage → AreWrong (map string_bytes words.now) }
-    ensures unread { ((request : Request) × IsRequest (map string_bytes words.now) request)
-        ⊎ IsUnread book.new (F.state folder.old) (F.state folder.new) result }
-
-    // Each status has its cause. The book has a fault exactly where the input was refused, and a stop exactly where the
-    // run stopped, unless memory ran out. It has no more pairs than asked for, and where it has so many and a pair is left
-    // the status says so.
-    ensures cause { (request : Request) → IsRequest (map string_bytes words.now) request →
-        HasCauseOf request book.new (F.state folder.old) (F.state folder.new) result }
-    ensures settled { (request : Request) → IsRequest (map string_bytes words.now) request →
-        settled_of book.new.phases ≤ request.budget }
-    ensures budget { (request : Request) → IsRequest (map string_bytes words.now) request →
-        EndsByBudget request.budget book.new result }
-    ensures shown { (request : Request) → IsRequest (map string_bytes words.now) request →
-        IsShownFor request.task book.new.input (F.state folder.old) (F.state folder.new) result }
-
-    // What each ending but the answer says and leaves, and what is decided by what is asked for, where the folder tells.
-    ensures told { (request : Request) → IsRequest (map string_bytes words.now) request →
+    // The headline: from what is asked for to the bytes of the answer.
+    ensures answered { result ≡ Status.Done → (request : Request) →
+        IsRequest (map string_bytes words.now) request →
         WhereTold (F.told folder.old) (F.told folder.new)
-        (Ends request book.new (Rose (F.state folder.old).faults (F.state folder.new).faults) result) }
-    ensures told_unasked { AreWrong (map string_bytes words.now) →
-        WhereTold (F.told folder.old) (F.told folder.new)
-        (EndsUnasked (Rose (F.state folder.old).faults (F.state folder.new).faults) result) }
-    ensures decided { (request : Request) → IsRequest (map string_bytes words.now) request →
-        WhereTold (F.told folder.old) (F.told folder.new)
-        (IsDecided request book.new (Rose (F.state folder.old).faults (F.state folder.new).faults) result) }
+        (GivesMarkovBasis request.task request.upto) }
 
-    // Over a folder that counts no fault, none is answered.
-    ensures sure { CountsNoFault F.state → result ≡ Status.Folder → ⊥ }
+    // Each other ending, its cause and what it leaves, and what the book shows.
+    ensures run { IsRunOnWords F.told F.state
+        (map string_bytes words.now) folder.old folder.new book.new result }
 {
     let complete = |job: Job, workers: u32| -> Result<Completed, Stopped>
         requires start { length job.start.moves ≤ job.basis_limit }
         requires limit { job.basis_limit ≤ 65536 }
-        requires some { 1 ≤ workers }
-        requires few { workers ≤ 64 }
+        requires some_workers { 1 ≤ workers }
+        requires few_workers { workers ≤ 64 }
         ensures answer { CompletesJob job result }
-        ensures over_budget { IfSome (phase_in result) (λ phase. AnswersOverBudget result ↔ IsUsedUp job phase) }
+        ensures over_budget { IfSome (phase_in result) (λ phase.
+            AnswersOverBudget result ↔ IsUsedUp job phase) }
     { complete_shared(rt, alloc, job, workers, gate) };
     run_words(alloc, Workers::new(rt, complete), words, folder, book)
 }
@@ -158,32 +102,12 @@ fn run_words<C: Crew + Drop, F: Folder>(
     requires ready { C.ready crew }
     requires book { book.old ≡ empty_book }
     requires making { (F.state folder.old).making ≡ false }
-    ensures answered { result ≡ Status.Done → (request : Request) → IsRequest (map string_bytes words.now) request →
-        WhereTold (F.told folder.old) (F.told folder.new) (GivesMarkovBasis request.task request.upto) }
-    ensures booked { result ≡ Status.Done → (request : Request) → IsRequest (map string_bytes words.now) request →
-        WhereTold (F.told folder.old) (F.told folder.new) (λ before after. BooksProblem request.task before.files book.new) }
-    ensures usage { AreWrong (map string_bytes words.now) → (result ≡ Status.Usage) ⊎ (result ≡ Status.Memory) }
-    ensures named { result ≡ Status.Usage → AreWrong (map string_bytes words.now) }
-    ensures unread { ((request : Request) × IsRequest (map string_bytes words.now) request)
-        ⊎ IsUnread book.new (F.state folder.old) (F.state folder.new) result }
-    ensures cause { (request : Request) → IsRequest (map string_bytes words.now) request →
-        HasCauseOf request book.new (F.state folder.old) (F.state folder.new) result }
-    ensures settled { (request : Request) → IsRequest (map string_bytes words.now) request →
-        settled_of book.new.phases ≤ request.budget }
-    ensures budget { (request : Request) → IsRequest (map string_bytes words.now) request →
-        EndsByBudget request.budget book.new result }
-    ensures shown { (request : Request) → IsRequest (map string_bytes words.now) request →
-        IsShownFor request.task book.new.input (F.state folder.old) (F.state folder.new) result }
-    ensures told { (request : Request) → IsRequest (map string_bytes words.now) request →
+    ensures answered { result ≡ Status.Done → (request : Request) →
+        IsRequest (map string_bytes words.now) request →
         WhereTold (F.told folder.old) (F.told folder.new)
-        (Ends request book.new (Rose (F.state folder.old).faults (F.state folder.new).faults) result) }
-    ensures told_unasked { AreWrong (map string_bytes words.now) →
-        WhereTold (F.told folder.old) (F.told folder.new)
-        (EndsUnasked (Rose (F.state folder.old).faults (F.state folder.new).faults) result) }
-    ensures decided { (request : Request) → IsRequest (map string_bytes words.now) request →
-        WhereTold (F.told folder.old) (F.told folder.new)
-        (IsDecided request book.new (Rose (F.state folder.old).faults (F.state folder.new).faults) result) }
-    ensures sure { CountsNoFault F.state → result ≡ Status.Folder → ⊥ }
+        (GivesMarkovBasis request.task request.upto) }
+    ensures run { IsRunOnWords F.told F.state
+        (map string_bytes words.now) folder.old folder.new book.new result }
 {
     match read_words(alloc, words) {
         Ok(request) => {
@@ -206,12 +130,15 @@ fn run<C: Crew, F: Folder>(
     requires ready { C.ready crew.now }
     requires book { book.old ≡ empty_book }
     requires making { (F.state folder.old).making ≡ false }
-    ensures cause { HasCauseOf request.now book.new (F.state folder.old) (F.state folder.new) result }
+    ensures cause { HasCauseOf request.now book.new (F.state folder.old)
+        (F.state folder.new) result }
     ensures settled { settled_of book.new.phases ≤ request.now.budget }
     ensures budget { EndsByBudget request.now.budget book.new result }
-    ensures shown { IsShownFor request.now.task book.new.input (F.state folder.old) (F.state folder.new) result }
+    ensures shown { IsShownFor request.now.task book.new.input (F.state folder.old)
+        (F.state folder.new) result }
     ensures told { WhereTold (F.told folder.old) (F.told folder.new)
-        (Ends request.now book.new (Rose (F.state folder.old).faults (F.state folder.new).faults) result) }
+        (Ends request.now book.new (Rose (F.state folder.old).faults (F.state folder.new).faults)
+        result) }
 {
     let Err(fault) = answer(alloc, crew, request, folder, book) else {
         return Status::Done;
@@ -239,8 +166,10 @@ fn answer<C: Crew, F: Folder>(
     ensures budget { IsStoppedByBudget request.now.budget book.new result }
     ensures making { IsNotMaking (F.state folder.new) result }
     ensures cause { HasCause RunFault.Failed (F.state folder.old) (F.state folder.new) result }
-    ensures shown { IsRunShownFor request.now.task (F.state folder.old) (F.state folder.new) result }
-    ensures told { WhereTold (F.told folder.old) (F.told folder.new) (Answers request.now book.new result) }
+    ensures shown { IsRunShownFor request.now.task (F.state folder.old)
+        (F.state folder.new) result }
+    ensures told { WhereTold (F.told folder.old) (F.told folder.new)
+        (Answers request.now book.new result) }
 {
     let problem = problem_of(alloc, folder, &request.task)?;
     let list = solve(
@@ -261,7 +190,8 @@ fn say<F: Folder>(folder: &mut F, status: Status, line: &str) -> Status
     ensures state { OnlyFaultsRose (F.state folder.old) (F.state folder.new) }
     ensures later { (F.state folder.old).faults ≤ (F.state folder.new).faults }
     ensures told { WhereTold (F.told folder.old) (F.told folder.new)
-        (SaysLine line.now (Rose (F.state folder.old).faults (F.state folder.new).faults ⊎ (result ≡ Status.Memory))) }
+        (SaysLine line.now (Rose (F.state folder.old).faults (F.state folder.new).faults
+        ⊎ (result ≡ Status.Memory))) }
 {
     match say_all(folder, Channel::Err, line.as_bytes()) {
         Ok(()) => status,

@@ -4,7 +4,7 @@ use Rattle.mk_desk.proofs.Telling.{where_told_then, where_told_weaker}
 use Rattle.mk_solve.specs.Books.{Book, settled_of}
 use Rattle.mk_run.specs.Lines.{memory_line, text_of_line}
 use Rattle.mk_run.specs.Runs.{Ends, EndsByBudget, HasCauseOf, HasLeftBook, IsShownFor, SaysLine}
-use Rattle.mk_run.specs.Stages.{Answers, IsRefusal, book_with}
+use Rattle.mk_run.specs.Stages.{Answers, IsRunRefusal, book_with}
 use Rattle.mk_run.specs.declared.status.Status.TheVariants.{Memory}
 use Rattle.mk_run.proofs.Endings.{nothing_said}
 use Rattle.mk_run.proofs.Found.{done_shown}
@@ -22,8 +22,8 @@ returns-in_default-clause-shown g c =
     done_shown c.args.request.now.task c.answer.new.book (g.F.Folder.state c.args.folder.now) (g.F.Folder.state c.answer.new.folder) c.in_default.ensures.book c.in_default.ensures.shown
 
 -- ---- a refusal whose line was to be said
-refusal_so : (g : Over) (c : Joined-refusal-2 g) → IsRefusal c.args.request.now.task (book_with c.answer.new.book c.in-Err.fault) c.in-Err.fault c.in-Ok.refusal
-refusal_so g c = subst (λ (b : Book). IsRefusal c.args.request.now.task b c.in-Err.fault c.in-Ok.refusal) c.keep_fault.ensures c.in-Ok.ensures
+refusal_so : (g : Over) (c : Joined-refusal-2 g) → IsRunRefusal c.args.request.now.task (book_with c.answer.new.book c.in-Err.fault) c.in-Err.fault c.in-Ok.refusal
+refusal_so g c = subst (λ (b : Book). IsRunRefusal c.args.request.now.task b c.in-Err.fault c.in-Ok.refusal) c.keep_fault.ensures c.in-Ok.ensures
 
 pub returns-in-Ok-clause-settled : goal.returns-in-Ok-clause-settled
 returns-in-Ok-clause-settled g c =

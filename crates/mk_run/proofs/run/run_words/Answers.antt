@@ -16,124 +16,81 @@ use Rattle.mk_run.proofs.run.run_words.Goals.{Joined-request, In-Err-Words}
 use Rattle.mk_run.proofs.run.run_words.Given.{Over}
 
 -- ---- words that were read as a request, which is the only one
-for_each : (g : Over) (c : Joined-request g) (P : Request → Type 0) → P c.in-Ok.request → (request : Request) → IsRequest (map string_bytes c.args.words.now) request → P request
+for_each : (g : Over) (c : Joined-request g) (P : Request → Type 0) → P c.in-Ok.request → (request : Request) →
+    IsRequest (map string_bytes c.args.words.now) request → P request
 for_each g c P h request asked = subst P (sym (c.in-Ok.ensures.only request asked)) h
 
-pub with_workers-crew-requires-clause-some : goal.with_workers-crew-requires-clause-some
-with_workers-crew-requires-clause-some g c = (workers_within (map string_bytes c.args.words.now) c.in-Ok.request c.in-Ok.ensures.ok).0
+pub with_workers-crew-requires-clause-some_workers : goal.with_workers-crew-requires-clause-some_workers
+with_workers-crew-requires-clause-some_workers g c = (workers_within (map string_bytes c.args.words.now) c.in-Ok.request c.in-Ok.ensures.ok).0
 
-pub with_workers-crew-requires-clause-few : goal.with_workers-crew-requires-clause-few
-with_workers-crew-requires-clause-few g c = (workers_within (map string_bytes c.args.words.now) c.in-Ok.request c.in-Ok.ensures.ok).1
+pub with_workers-crew-requires-clause-few_workers : goal.with_workers-crew-requires-clause-few_workers
+with_workers-crew-requires-clause-few_workers g c = (workers_within (map string_bytes c.args.words.now) c.in-Ok.request c.in-Ok.ensures.ok).1
 
 pub returns-in-Ok-clause-answered : goal.returns-in-Ok-clause-answered
 returns-in-Ok-clause-answered g c = λ done.
     let start = g.F.Folder.told c.args.folder.now in
     let end = g.F.Folder.told c.run.new.folder in
     let rose = Rose (g.F.Folder.state c.args.folder.now).faults (g.F.Folder.state c.run.new.folder).faults in
-    for_each g c (λ request. WhereTold start end (GivesMarkovBasis request.task request.upto)) (done_gives c.in-Ok.request c.run.new.book rose c.run.result start end done c.run.ensures.told)
+    for_each g c (λ request. WhereTold start end (GivesMarkovBasis request.task request.upto))
+    (done_gives c.in-Ok.request c.run.new.book rose c.run.result start end done c.run.ensures.told)
 
-pub returns-in-Ok-clause-booked : goal.returns-in-Ok-clause-booked
-returns-in-Ok-clause-booked g c = λ done.
-    let start = g.F.Folder.told c.args.folder.now in
-    let end = g.F.Folder.told c.run.new.folder in
-    let rose = Rose (g.F.Folder.state c.args.folder.now).faults (g.F.Folder.state c.run.new.folder).faults in
-    for_each g c (λ request. WhereTold start end (λ before after. BooksProblem request.task before.files c.run.new.book)) (done_books c.in-Ok.request c.run.new.book rose c.run.result start end done c.run.ensures.told)
-
-pub returns-in-Ok-clause-usage : goal.returns-in-Ok-clause-usage
-returns-in-Ok-clause-usage g c = λ wrong. absurd (wrong c.in-Ok.request c.in-Ok.ensures.ok)
-
-pub returns-in-Ok-clause-named : goal.returns-in-Ok-clause-named
-returns-in-Ok-clause-named g c = λ usage.
-    absurd (subst (HasCauseOf c.in-Ok.request c.run.new.book (g.F.Folder.state c.args.folder.now) (g.F.Folder.state c.run.new.folder)) usage c.run.ensures.cause)
-
-pub returns-in-Ok-clause-unread : goal.returns-in-Ok-clause-unread
-returns-in-Ok-clause-unread g c = inl (c.in-Ok.request, c.in-Ok.ensures.ok)
-
-pub returns-in-Ok-clause-cause : goal.returns-in-Ok-clause-cause
-returns-in-Ok-clause-cause g c =
-    for_each g c (λ request. HasCauseOf request c.run.new.book (g.F.Folder.state c.args.folder.now) (g.F.Folder.state c.run.new.folder) c.run.result) c.run.ensures.cause
-
-pub returns-in-Ok-clause-settled : goal.returns-in-Ok-clause-settled
-returns-in-Ok-clause-settled g c = for_each g c (λ request. settled_of c.run.new.book.phases ≤ request.budget) c.run.ensures.settled
-
-pub returns-in-Ok-clause-budget : goal.returns-in-Ok-clause-budget
-returns-in-Ok-clause-budget g c = for_each g c (λ request. EndsByBudget request.budget c.run.new.book c.run.result) c.run.ensures.budget
-
-pub returns-in-Ok-clause-shown : goal.returns-in-Ok-clause-shown
-returns-in-Ok-clause-shown g c =
-    for_each g c (λ request. IsShownFor request.task c.run.new.book.input (g.F.Folder.state c.args.folder.now) (g.F.Folder.state c.run.new.folder) c.run.result) c.run.ensures.shown
-
-pub returns-in-Ok-clause-told : goal.returns-in-Ok-clause-told
-returns-in-Ok-clause-told g c =
-    let start = g.F.Folder.told c.args.folder.now in
-    let end = g.F.Folder.told c.run.new.folder in
-    let rose = Rose (g.F.Folder.state c.args.folder.now).faults (g.F.Folder.state c.run.new.folder).faults in
-    for_each g c (λ request. WhereTold start end (Ends request c.run.new.book rose c.run.result)) c.run.ensures.told
-
-pub returns-in-Ok-clause-told_unasked : goal.returns-in-Ok-clause-told_unasked
-returns-in-Ok-clause-told_unasked g c = λ wrong. absurd (wrong c.in-Ok.request c.in-Ok.ensures.ok)
-
-pub returns-in-Ok-clause-decided : goal.returns-in-Ok-clause-decided
-returns-in-Ok-clause-decided g c =
+pub returns-in-Ok-clause-run : goal.returns-in-Ok-clause-run
+returns-in-Ok-clause-run g c =
+    let asked = c.in-Ok.request in
     let before = g.F.Folder.state c.args.folder.now in
     let after = g.F.Folder.state c.run.new.folder in
     let start = g.F.Folder.told c.args.folder.now in
     let end = g.F.Folder.told c.run.new.folder in
+    let rose = Rose before.faults after.faults in
     let book = c.run.new.book in
     let status = c.run.result in
-    for_each g c (λ request. WhereTold start end (IsDecided request book (Rose before.faults after.faults) status))
-    (where_told_weaker start end (Ends c.in-Ok.request book (Rose before.faults after.faults) status) (IsDecided c.in-Ok.request book (Rose before.faults after.faults) status) c.run.ensures.told
-    (decided c.in-Ok.request book before after status c.run.ensures.cause))
-
-pub returns-in-Ok-clause-sure : goal.returns-in-Ok-clause-sure
-returns-in-Ok-clause-sure g c = λ none.
-    no_folder c.in-Ok.request c.run.new.book (g.F.Folder.state c.args.folder.now) (g.F.Folder.state c.run.new.folder) c.run.result (none c.run.new.folder) c.run.ensures.cause
+    record {
+      booked = λ done. for_each g c (λ request. WhereTold start end (λ old new. BooksProblem request.task old.files book))
+          (done_books asked book rose status start end done c.run.ensures.told);
+      usage = λ wrong. absurd (wrong asked c.in-Ok.ensures.ok);
+      named = λ usage. absurd (subst (HasCauseOf asked book before after) usage c.run.ensures.cause);
+      unread = inl (asked, c.in-Ok.ensures.ok);
+      cause = for_each g c (λ request. HasCauseOf request book before after status) c.run.ensures.cause;
+      settled = for_each g c (λ request. settled_of book.phases ≤ request.budget) c.run.ensures.settled;
+      budget = for_each g c (λ request. EndsByBudget request.budget book status) c.run.ensures.budget;
+      shown = for_each g c (λ request. IsShownFor request.task book.input before after status) c.run.ensures.shown;
+      told = for_each g c (λ request. WhereTold start end (Ends request book rose status)) c.run.ensures.told;
+      told_unasked = λ wrong. absurd (wrong asked c.in-Ok.ensures.ok);
+      decided =
+          for_each g c (λ request. WhereTold start end (IsDecided request book rose status))
+          (where_told_weaker start end (Ends asked book rose status) (IsDecided asked book rose status) c.run.ensures.told
+          (decided asked book before after status c.run.ensures.cause));
+      sure = λ none. no_folder asked book before after status (none c.run.new.folder) c.run.ensures.cause;
+    }
 
 -- ---- words that are not in the language
-wrong : (g : Over) (c : In-Err-Words g) → AreWrong (map string_bytes c.args.words.now)
-wrong g c = c.read_words.ensures.words (c.in-Err-Words.is ∙ ap Err c.in-Err-Words.field-0-is)
+wrong_words : (g : Over) (c : In-Err-Words g) → AreWrong (map string_bytes c.args.words.now)
+wrong_words g c = c.read_words.ensures.words (c.in-Err-Words.is ∙ ap Err c.in-Err-Words.field-0-is)
 
 pub returns-in-Err-Words-clause-answered : goal.returns-in-Err-Words-clause-answered
-returns-in-Err-Words-clause-answered g c = λ done request asked. absurd (wrong g (goal.at.returns-in-Err-Words-clause-answered g c).In-Err-Words request asked)
+returns-in-Err-Words-clause-answered g c = λ done request asked. absurd
+    (wrong_words g (goal.at.returns-in-Err-Words-clause-answered g c).In-Err-Words request asked)
 
-pub returns-in-Err-Words-clause-booked : goal.returns-in-Err-Words-clause-booked
-returns-in-Err-Words-clause-booked g c = λ done request asked. absurd (wrong g (goal.at.returns-in-Err-Words-clause-booked g c).In-Err-Words request asked)
-
-pub returns-in-Err-Words-clause-usage : goal.returns-in-Err-Words-clause-usage
-returns-in-Err-Words-clause-usage g c = λ none. c.say.ensures.status
-
-pub returns-in-Err-Words-clause-named : goal.returns-in-Err-Words-clause-named
-returns-in-Err-Words-clause-named g c = λ usage. wrong g (goal.at.returns-in-Err-Words-clause-named g c).In-Err-Words
-
-pub returns-in-Err-Words-clause-unread : goal.returns-in-Err-Words-clause-unread
-returns-in-Err-Words-clause-unread g c = inr (record { empty = c.requires.book; untouched = c.say.ensures.state; ended = c.say.ensures.status })
-
-pub returns-in-Err-Words-clause-cause : goal.returns-in-Err-Words-clause-cause
-returns-in-Err-Words-clause-cause g c = λ request asked. absurd (wrong g (goal.at.returns-in-Err-Words-clause-cause g c).In-Err-Words request asked)
-
-pub returns-in-Err-Words-clause-settled : goal.returns-in-Err-Words-clause-settled
-returns-in-Err-Words-clause-settled g c = λ request asked. absurd (wrong g (goal.at.returns-in-Err-Words-clause-settled g c).In-Err-Words request asked)
-
-pub returns-in-Err-Words-clause-budget : goal.returns-in-Err-Words-clause-budget
-returns-in-Err-Words-clause-budget g c = λ request asked. absurd (wrong g (goal.at.returns-in-Err-Words-clause-budget g c).In-Err-Words request asked)
-
-pub returns-in-Err-Words-clause-shown : goal.returns-in-Err-Words-clause-shown
-returns-in-Err-Words-clause-shown g c = λ request asked. absurd (wrong g (goal.at.returns-in-Err-Words-clause-shown g c).In-Err-Words request asked)
-
-pub returns-in-Err-Words-clause-told : goal.returns-in-Err-Words-clause-told
-returns-in-Err-Words-clause-told g c = λ request asked. absurd (wrong g (goal.at.returns-in-Err-Words-clause-told g c).In-Err-Words request asked)
-
-pub returns-in-Err-Words-clause-told_unasked : goal.returns-in-Err-Words-clause-told_unasked
-returns-in-Err-Words-clause-told_unasked g c = λ none.
+pub returns-in-Err-Words-clause-run : goal.returns-in-Err-Words-clause-run
+returns-in-Err-Words-clause-run g c =
+    let wrong = wrong_words g (goal.at.returns-in-Err-Words-clause-run g c).In-Err-Words in
     let rose = Rose (g.F.Folder.state c.args.folder.now).faults (g.F.Folder.state c.say.new.folder).faults in
     let status = c.say.result in
-    where_told_weaker _ _ (SaysLine usage_line (rose ⊎ (status ≡ Memory))) (EndsUnasked rose status) c.say.ensures.told (usage_ends rose status c.say.ensures.status)
-
-pub returns-in-Err-Words-clause-decided : goal.returns-in-Err-Words-clause-decided
-returns-in-Err-Words-clause-decided g c = λ request asked. absurd (wrong g (goal.at.returns-in-Err-Words-clause-decided g c).In-Err-Words request asked)
-
-pub returns-in-Err-Words-clause-sure : goal.returns-in-Err-Words-clause-sure
-returns-in-Err-Words-clause-sure g c = λ none. unread_no_folder c.say.result c.say.ensures.status
+    record {
+      booked = λ done request asked. absurd (wrong request asked);
+      usage = λ none. c.say.ensures.status;
+      named = λ usage. wrong;
+      unread = inr (record { empty = c.requires.book; untouched = c.say.ensures.state; ended = c.say.ensures.status });
+      cause = λ request asked. absurd (wrong request asked);
+      settled = λ request asked. absurd (wrong request asked);
+      budget = λ request asked. absurd (wrong request asked);
+      shown = λ request asked. absurd (wrong request asked);
+      told = λ request asked. absurd (wrong request asked);
+      told_unasked = λ none. where_told_weaker _ _ (SaysLine usage_line (rose ⊎ (status ≡ Memory)))
+          (EndsUnasked rose status) c.say.ensures.told (usage_ends rose status c.say.ensures.status);
+      decided = λ request asked. absurd (wrong request asked);
+      sure = λ none. unread_no_folder status c.say.ensures.status;
+    }
 
 -- ---- words for which there was no memory
 is_memory : (status : Status) → (status ≡ Memory) ⊎ (status ≡ Memory) → status ≡ Memory
@@ -142,59 +99,35 @@ is_memory status which = elim which [ inl e ↦ e | inr e ↦ e ]
 pub returns-clause-answered : goal.returns-clause-answered
 returns-clause-answered g c = λ done. absurd (let memory = is_memory c.say-in-Err-Memory.result c.say-in-Err-Memory.ensures.status in cc)
 
-pub returns-clause-booked : goal.returns-clause-booked
-returns-clause-booked g c = λ done. absurd (let memory = is_memory c.say-in-Err-Memory.result c.say-in-Err-Memory.ensures.status in cc)
-
-pub returns-clause-usage : goal.returns-clause-usage
-returns-clause-usage g c = λ wrong. inr (is_memory c.say-in-Err-Memory.result c.say-in-Err-Memory.ensures.status)
-
-pub returns-clause-named : goal.returns-clause-named
-returns-clause-named g c = λ usage. absurd (let memory = is_memory c.say-in-Err-Memory.result c.say-in-Err-Memory.ensures.status in cc)
-
-pub returns-clause-unread : goal.returns-clause-unread
-returns-clause-unread g c =
-    inr (record { empty = c.requires.book; untouched = c.say-in-Err-Memory.ensures.state; ended = inr (is_memory c.say-in-Err-Memory.result c.say-in-Err-Memory.ensures.status) })
-
-pub returns-clause-cause : goal.returns-clause-cause
-returns-clause-cause g c = λ request asked.
-    subst (HasCauseOf request c.args.book.now (g.F.Folder.state c.args.folder.now) (g.F.Folder.state c.say-in-Err-Memory.new.folder)) (sym (is_memory c.say-in-Err-Memory.result c.say-in-Err-Memory.ensures.status)) (inl c.requires.book)
-
-pub returns-clause-settled : goal.returns-clause-settled
-returns-clause-settled g c = λ request asked. empty_is_few request.budget c.args.book.now c.requires.book
-
-pub returns-clause-budget : goal.returns-clause-budget
-returns-clause-budget g c = λ request asked used other. inr (is_memory c.say-in-Err-Memory.result c.say-in-Err-Memory.ensures.status)
-
-pub returns-clause-shown : goal.returns-clause-shown
-returns-clause-shown g c = λ request asked.
-    unread_shown request.task c.args.book.now (g.F.Folder.state c.args.folder.now) (g.F.Folder.state c.say-in-Err-Memory.new.folder) c.say-in-Err-Memory.result c.requires.book c.say-in-Err-Memory.ensures.state
-    (is_memory c.say-in-Err-Memory.result c.say-in-Err-Memory.ensures.status)
-
-pub returns-clause-told : goal.returns-clause-told
-returns-clause-told g c = λ request asked.
+pub returns-clause-run : goal.returns-clause-run
+returns-clause-run g c =
+    let before = g.F.Folder.state c.args.folder.now in
+    let after = g.F.Folder.state c.say-in-Err-Memory.new.folder in
     let start = g.F.Folder.told c.args.folder.now in
     let end = g.F.Folder.told c.say-in-Err-Memory.new.folder in
-    let before = g.F.Folder.state c.args.folder.now in
-    let rose = Rose before.faults (g.F.Folder.state c.say-in-Err-Memory.new.folder).faults in
-    let status = c.say-in-Err-Memory.result in
+    let rose = Rose before.faults after.faults in
     let book = c.args.book.now in
-    subst (λ (s : Status). WhereTold start end (Ends request book rose s)) (sym (is_memory status c.say-in-Err-Memory.ensures.status))
-    (where_told_weaker start end (SaysLine memory_line (rose ⊎ (status ≡ Memory))) (Ends request book rose Memory) c.say-in-Err-Memory.ensures.told
-    (unread_ends request book before rose (rose ⊎ (status ≡ Memory)) c.requires.book))
-
-pub returns-clause-told_unasked : goal.returns-clause-told_unasked
-returns-clause-told_unasked g c = λ none.
-    let rose = Rose (g.F.Folder.state c.args.folder.now).faults (g.F.Folder.state c.say-in-Err-Memory.new.folder).faults in
     let status = c.say-in-Err-Memory.result in
-    where_told_weaker _ _ (SaysLine memory_line (rose ⊎ (status ≡ Memory))) (EndsUnasked rose status) c.say-in-Err-Memory.ensures.told
-    (memory_ends rose status (is_memory status c.say-in-Err-Memory.ensures.status) (rose ⊎ (status ≡ Memory)))
-
-pub returns-clause-decided : goal.returns-clause-decided
-returns-clause-decided g c = λ request asked.
-    let rose = Rose (g.F.Folder.state c.args.folder.now).faults (g.F.Folder.state c.say-in-Err-Memory.new.folder).faults in
-    let status = c.say-in-Err-Memory.result in
-    where_told_weaker _ _ (SaysLine memory_line (rose ⊎ (status ≡ Memory))) (IsDecided request c.args.book.now rose status) c.say-in-Err-Memory.ensures.told
-    (λ x y said. unread_decided request c.args.book.now rose status (is_memory status c.say-in-Err-Memory.ensures.status) x y)
-
-pub returns-clause-sure : goal.returns-clause-sure
-returns-clause-sure g c = λ none. unread_no_folder c.say-in-Err-Memory.result (inr (is_memory c.say-in-Err-Memory.result c.say-in-Err-Memory.ensures.status))
+    let memory = is_memory status c.say-in-Err-Memory.ensures.status in
+    let said = c.say-in-Err-Memory.ensures.told in
+    record {
+      booked = λ done. absurd (let e = memory in cc);
+      usage = λ wrong. inr memory;
+      named = λ usage. absurd (let e = memory in cc);
+      unread = inr (record { empty = c.requires.book; untouched = c.say-in-Err-Memory.ensures.state; ended = inr memory });
+      cause = λ request asked. subst (HasCauseOf request book before after) (sym memory) (inl c.requires.book);
+      settled = λ request asked. empty_is_few request.budget book c.requires.book;
+      budget = λ request asked used other. inr memory;
+      shown = λ request asked. unread_shown request.task book before after status c.requires.book c.say-in-Err-Memory.ensures.state memory;
+      told = λ request asked.
+          subst (λ (s : Status). WhereTold start end (Ends request book rose s)) (sym memory)
+          (where_told_weaker start end (SaysLine memory_line (rose ⊎ (status ≡ Memory))) (Ends request book rose Memory) said
+          (unread_ends request book before rose (rose ⊎ (status ≡ Memory)) c.requires.book));
+      told_unasked = λ none.
+          where_told_weaker _ _ (SaysLine memory_line (rose ⊎ (status ≡ Memory))) (EndsUnasked rose status) said
+          (memory_ends rose status memory (rose ⊎ (status ≡ Memory)));
+      decided = λ request asked.
+          where_told_weaker _ _ (SaysLine memory_line (rose ⊎ (status ≡ Memory))) (IsDecided request book rose status) said
+          (λ x y line. unread_decided request book rose status memory x y);
+      sure = λ none. unread_no_folder status (inr memory);
+    }

@@ -6,7 +6,7 @@ ghost use Rattle.std.specs.Prelude.{◌≤◌, IfSome, length};
 
 use mk_core::{Completed, Job, Stopped, complete_alone};
 use mk_files::{Bounds, Table, read_table};
-use mk_model::ENTRY_MAX;
+use mk_model::{ENTRY_MAX, MOVES_MAX};
 use mk_move::{Grading, Priority};
 use mk_saturate::start_basis;
 use std::alloc::Global;
@@ -22,9 +22,6 @@ const LIMITS: Bounds = Bounds {
 
 /// How many pairs may be settled.
 const BUDGET: u64 = 100_000_000;
-
-/// How many moves the basis may have.
-const BASIS_LIMIT: u32 = 65_536;
 
 /// The exit status is 0 once the line is said, 1 where `P.lat` can't be read or is no table of rows of sum 0, and 2 where the
 /// completion stopped.
@@ -57,7 +54,7 @@ fn first_job(alloc: Global, bytes: &[u8]) -> Option<Job>
     Some(Job {
         start,
         budget: BUDGET,
-        basis_limit: BASIS_LIMIT,
+        basis_limit: MOVES_MAX,
     })
 }
 

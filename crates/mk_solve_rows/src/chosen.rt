@@ -1,15 +1,14 @@
-use crate::lattices::{assert_list, assert_moves};
+use crate::lists::assert_list;
 use crate::saturated::saturated_of;
+use crate::steep::{STEEP_WEIGHT, beside_tables};
 use mk_inter::{ReducedBasis, reduce_tails, reduce_tails_shared};
 use mk_minimise::{MinimalList, MinimiseFault, minimise, minimise_shared};
 use mk_move::OverflowAt;
+use mk_row_tools::expect_moves;
 use std::alloc::AllocGlobal;
 use std::process::Abort;
 use std::test::Fail;
 use std::thread::Threads;
-
-pub(crate) const STEEP_WEIGHT: &str =
-    "3 4\n-226673591177742970257405 0 226673591177742970257405 -226673591177742970257405\n302231454903657293676540 151115727451828646838270 151115727451828646838270 -226673591177742970257405\n-151115727451828646838270 302231454903657293676540 -151115727451828646838270 151115727451828646838270\n";
 
 // The reduced basis of the lattice in a text, graded by the weights, its tails reduced by one thread or by several.
 fn reduced_of<R: Abort + AllocGlobal + Threads + Sync>(
@@ -51,7 +50,11 @@ fn tails_are_reduced_and_moves_are_chosen(rt: HostRuntime) -> Result<(), Fail> {
     ];
     for is_shared in [false, true] {
         let reduced = reduced_of(&rt, is_shared, "2 3\n2 -1 0\n1 1 -1\n", &[1, 2, 3])?;
-        assert_moves(&rt, reduced.basis(), "3 3\n2 -1 0\n1 1 -1\n-1 2 -1\n")?;
+        expect_moves(
+            rt.alloc(),
+            reduced.basis(),
+            "3 3\n2 -1 0\n1 1 -1\n-1 2 -1\n",
+        )?;
         for (bound, moves) in rows {
             let chosen = chosen_from(&rt, is_shared, &reduced, bound)?;
             assert_list(&rt, &chosen, moves)?;
@@ -69,8 +72,9 @@ fn a_steep_weight_stops_the_choice(rt: HostRuntime) -> Result<(), Fail> {
         times: 1,
         right: 453347182355485940514810,
     };
+    let text = beside_tables(rt.alloc(), &STEEP_WEIGHT, 0, "0")?;
     for is_shared in [false, true] {
-        let reduced = reduced_of(&rt, is_shared, STEEP_WEIGHT, &[1, 1, 9, 8])?;
+        let reduced = reduced_of(&rt, is_shared, &text, &[1, 1, 9, 8])?;
         match chosen_from(&rt, is_shared, &reduced, None) {
             Err(MinimiseFault::Overflow { by, at, .. }) => assert_eq!(rt; (by, at), (None, wanted)),
             other => panic!(rt; "{other:?}"),

@@ -5,12 +5,12 @@
 #[cfg(test)]
 mod chosen;
 #[cfg(test)]
-mod completed;
-#[cfg(test)]
-mod lattices;
+mod lists;
 #[cfg(test)]
 mod saturated;
 #[cfg(test)]
 mod solved;
+#[cfg(test)]
+mod steep;
 #[cfg(test)]
 mod stopped;

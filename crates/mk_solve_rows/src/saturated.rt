@@ -1,7 +1,7 @@
 ghost use Rattle.mk_saturate.specs.Saturations.{NoneLeft};
 
-use crate::lattices::{assert_moves, graded_by, table_of};
 use mk_core::{SaturatedBasis, complete_alone};
+use mk_row_tools::{expect_moves, graded_of, table_of};
 use mk_saturate::Saturation;
 use std::alloc::AllocGlobal;
 use std::process::Abort;
@@ -13,8 +13,8 @@ fn saturation_of(
     text: &str,
     weights: &[i64],
 ) -> Result<Saturation, Fail> {
-    let table = table_of(rt, text)?;
-    let lattice = graded_by(rt, table, weights)?;
+    let table = table_of(rt.alloc(), text)?;
+    let lattice = graded_of(rt.alloc(), table, weights)?;
     Ok(Saturation::start(rt.alloc(), &lattice.table, &lattice.grading)?)
 }
 
@@ -62,7 +62,7 @@ fn columns_are_saturated_in_their_order(rt: HostRuntime) -> Result<(), Fail> {
         };
         assert_eq!(rt; job.budget, budget);
         assert_eq!(rt; job.start.priority().as_slice(), list.as_slice());
-        assert_moves(&rt, &job.start, moves)?;
+        expect_moves(rt.alloc(), &job.start, moves)?;
         let completed = complete_alone(rt.alloc(), job)?;
         saturation.accept(&completed)?;
     }

@@ -1,8 +1,9 @@
-use crate::lattices::{assert_list, assert_moves, graded_by, table_of};
+use crate::lists::assert_list;
 use mk_files::Table;
 use mk_gen::model_table;
 use mk_inter::ReducedBasis;
 use mk_move::MoveList;
+use mk_row_tools::{expect_moves, graded_of, table_of};
 use mk_solve::{MinimalList, OpenGate, RunBook, RunStop, solve_alone, solve_shared};
 use std::alloc::AllocGlobal;
 use std::process::Abort;
@@ -27,7 +28,7 @@ pub(crate) fn solved_by<R: Abort + AllocGlobal + Threads + Wait + Sync>(
     bound: Option<u64>,
 ) -> Result<Solved, Fail> {
     assert!(rt; workers >= 1 && workers <= 64);
-    let lattice = graded_by(rt, table, weights)?;
+    let lattice = graded_of(rt.alloc(), table, weights)?;
     let mut book = RunBook::new(rt.alloc());
     let outcome = if workers == 1 {
         solve_alone(
@@ -65,7 +66,7 @@ fn assert_reduced(
         panic!(rt; "no reduced basis");
     };
     let basis = kept.basis();
-    assert_moves(rt, basis, moves)?;
+    expect_moves(rt.alloc(), basis, moves)?;
     assert_eq!(rt; basis.len() as usize, weights.len());
     for (place, weight) in weights.iter().enumerate() {
         assert_eq!(rt; basis.move_at(place as u32).weight(), *weight);
@@ -143,7 +144,7 @@ fn lattices_are_solved(rt: HostRuntime) -> Result<(), Fail> {
     ];
     for (text, grade, budget, bound, moves, reduced, weights, phases) in rows {
         for workers in 1..3 {
-            let table = table_of(&rt, text)?;
+            let table = table_of(rt.alloc(), text)?;
             let solved = solved_by(&rt, workers, table, grade, budget, bound)?;
             assert_reduced(&rt, solved.book.reduced(), reduced, weights)?;
             assert_eq!(rt; solved.book.phase_count(), phases);

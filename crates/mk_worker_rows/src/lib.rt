@@ -1,7 +1,0 @@
-//! Whole runs by several workers, each with what it must give. The tests are all there is.
-#![tactic(auto)]
-
-#[cfg(test)]
-mod held;
-#[cfg(test)]
-mod runs;

@@ -1,4 +1,4 @@
-# Read by the scripts beside it: the lattice of a made model, as the text of a .lat file.
+# Read by the scripts beside it: lattices as the text of a .lat file, of a made model and of a few plain rows.
 
 # The lattice of the model of two or three sizes, as 6x6 or 3x3x4 (no interaction of all): a move for each two neighbours in every
 # direction, with the sign of the number of second neighbours.
@@ -17,6 +17,19 @@ lattice() {
                 entry[place] = (x + y + z) % 2 ? -1 : 1
             }
             for (k = 0; k < cells; k++) printf "%s%d", k ? " " : "", entry[k]
+            print ""
+        }
+    }'
+}
+
+# So many rows of so many columns: 1 and -1 by turns in the first, two of each by turns in the second, four of each in the third. Each row
+# has sum 0 where twice its turn divides the number of columns.
+plain_rows() {
+    awk -v rows="$1" -v columns="$2" 'BEGIN {
+        print rows, columns
+        for (r = 0; r < rows; r++) {
+            turn = 2 ^ r
+            for (c = 0; c < columns; c++) printf "%s%d", c ? " " : "", int(c / turn) % 2 ? -1 : 1
             print ""
         }
     }'

@@ -1,16 +1,16 @@
 #!/usr/bin/env bash
-# Compares `markov` with 1, 2 and 4 workers, side by side in one run: each number of workers five times in turn on the same file, and
-# the best time counts, start of the process included. The files are made models, which are made here, and the lattices of bench/long,
-# whose moves have a hundred columns and more. For each a line has the seconds, and the ratios to those of
-# one worker. The answers are compared: they are the same whatever the number of workers.
-# Usage: bench/workers.sh MARKOV [MODEL or FILE.lat ..]
+# Compares `markov` with 1, 2, 4 and 64 workers, side by side in one run: each number of workers five times in turn on the same file, and
+# the best time counts, start of the process included. The files are made models, which are made here, one row of 512 columns and two of
+# 300, whose phases have no pair to share, or one, and the lattices of bench/long, whose moves have a hundred columns and more. For each a
+# line has the seconds, and the ratios to those of one worker. The answers are compared: they are the same whatever the number of workers.
+# Usage: bench/workers.sh MARKOV [MODEL or ROWS:COLUMNS or FILE.lat ..]
 
-[ $# -ge 1 ] && [ -f "$1" ] || { echo "usage: $0 MARKOV [MODEL or FILE.lat ..]" >&2; exit 2; }
+[ $# -ge 1 ] && [ -f "$1" ] || { echo "usage: $0 MARKOV [MODEL or ROWS:COLUMNS or FILE.lat ..]" >&2; exit 2; }
 markov=$(realpath "$1")
 shift
 bench=$(realpath "$(dirname "$0")")
 names=()
-for name in ${*:-3x3x3 6x6 8x8 3x3x4 "$bench"/long/*.lat}; do
+for name in ${*:-3x3x3 6x6 8x8 3x3x4 1:512 2:300 "$bench"/long/*.lat}; do
     case $name in
     *.lat) names+=("$(realpath "$name")") ;;
     *) names+=("$name") ;;
@@ -33,12 +33,13 @@ failed=0
 for name in "${names[@]}"; do
     case $name in
     *.lat) cp "$name" P.lat ;;
+    *:*) plain_rows "${name%:*}" "${name#*:}" >P.lat ;;
     *) lattice "$name" >P.lat ;;
     esac
     rm -f times answer
     for round in 1 2 3 4 5; do
         line=
-        for workers in 1 2 4; do
+        for workers in 1 2 4 64; do
             took=$(timed $workers) || exit 1
             line="$line $took"
             [ -f answer ] || cp P.mar answer
@@ -47,11 +48,11 @@ for name in "${names[@]}"; do
         echo "$line" >>times
     done
     awk -v name="$(basename "$name" .lat)" '
-        NR == 1 { for (k = 1; k <= 3; k++) best[k] = $k }
-        { for (k = 1; k <= 3; k++) if ($k < best[k]) best[k] = $k }
+        NR == 1 { for (k = 1; k <= NF; k++) best[k] = $k }
+        { for (k = 1; k <= NF; k++) if ($k < best[k]) best[k] = $k }
         END {
-            printf "%-10s 1 worker %.3f s, 2 workers %.3f s (%.2f), 4 workers %.3f s (%.2f)\n",
-                name, best[1] / 1e6, best[2] / 1e6, best[2] / best[1], best[3] / 1e6, best[3] / best[1]
+            printf "%-10s 1 worker %.3f s, 2 workers %.3f s (%.2f), 4 workers %.3f s (%.2f), 64 workers %.3f s (%.2f)\n", name, best[1] / 1e6,
+                best[2] / 1e6, best[2] / best[1], best[3] / 1e6, best[3] / best[1], best[4] / 1e6, best[4] / best[1]
         }' times
 done
 exit $failed

@@ -1,6 +1,6 @@
 #!/usr/bin/env bash
 # Runs the built program over real files and compares its status, what it says and the files that it leaves: each folder of
-# examples/ against its answer, and what only real files show. The rows of whole runs stand in crates/mk_rows and crates/mk_fault_rows.
+# examples/ against its answer, and what only real files show. The rows of whole runs stand in crates/mk_run_rows and crates/mk_run_fault_rows.
 # Usage: tests/program.sh PROGRAM
 
 [ $# -eq 1 ] && [ -f "$1" ] || { echo "usage: $0 PROGRAM" >&2; exit 2; }
@@ -13,6 +13,7 @@ trap 'umount "$folder" 2>/dev/null; rm -rf "$work"' EXIT
 folder=$work/folder
 errors=$work/err
 limit=
+mode=
 summary=
 as=()
 older='7 7\nan older answer\n'
@@ -60,7 +61,7 @@ made() {
 
 # Runs the program on the words behind the first three: the name of the case, the status, and the line on standard
 # error, or nothing. Standard output is to have $summary. Standard error goes to $errors, or is closed where that is -, no file grows past
-# $limit KiB, and $as are the words that run it as another user or under a tracer.
+# $limit KiB, P.mar has the permissions $mode at the end, and $as are the words that run it as another user or under a tracer.
 ends() {
     local name=$1 status=$2 line=$3 faults=() got file
     shift 3
@@ -82,6 +83,9 @@ ends() {
     for file in "${wanted[@]}"; do
         diff -r --no-dereference "$folder/$file" "$work/want.$file" >/dev/null 2>&1 || faults+=("$file is other")
     done
+    got=$mode
+    if [ -n "$mode" ]; then got=$(stat -c %a "$folder/P.mar"); fi
+    [ "$got" = "$mode" ] || faults+=("permissions $got for $mode")
     got=$(find "$folder" -mindepth 1 -maxdepth 1 | wc -l)
     [ "$got" -eq ${#wanted[@]} ] || faults+=("$got files for ${#wanted[@]}: $(ls -A "$folder" | tr '\n' ' ')")
     if [ ${#faults[@]} -eq 0 ]; then
@@ -336,6 +340,22 @@ given P.mar.part 'mine\n'
 for number in $(seq 2 100); do given "P.mar.part$number" 'mine\n'; done
 ends 'every name of a part is taken' 3 "$failed_line" P
 
+# An answer has the permissions of the older one, whatever the mask takes away, and a first one those that the mask leaves.
+for mode in 600 640 666 444; do
+    fresh
+    given P.lat '1 2\n2 -2\n'
+    printf "$older" >"$folder/P.mar"
+    chmod "$mode" "$folder/P.mar"
+    made P.mar '1 2\n2 -2\n'
+    ends "an older answer that has $mode" 0 '' P
+done
+mode=$(printf '%o' $((0666 & ~$(umask))))
+fresh
+given P.lat '1 2\n2 -2\n'
+made P.mar '1 2\n2 -2\n'
+ends "a first answer has $mode" 0 '' P
+mode=
+
 # An answer of more than 1024 bytes, of which the first 1024 are written.
 fresh
 given P.lat "1 512\n$(yes '1000 -1000' | head -n 256)\n"
@@ -443,7 +463,8 @@ answers_again() {
 }
 
 # The system calls that a run makes on its files, by kind, each with the error that it gets: each of them fails in turn, which ends the
-# run with this status, or the run is killed as it begins. Once the answer has its name, a folder that can't be synced is no fault.
+# run with this status, or the run is killed as it begins. Once the answer has its name, a folder that can't be synced is no fault; nor
+# are permissions that can't be read or set: the answer then has fewer.
 printf "$moves" >"$work/moves"
 traced() {
     local file
@@ -486,6 +507,8 @@ read EIO 3 3
 write ENOSPC 3 3 3 3
 fsync EIO 3 0
 rename EIO 3
+statx EIO 0
+fchmod EPERM 0
 CALLS
 else
     echo 'strace is not there or may not trace: no system call that fails'
